@@ -1,0 +1,3 @@
+-- A value's bytes, and the double that they are.
+pub mod Form
+pub mod Class

@@ -1,0 +1,48 @@
+-- The longest run and what follows it are the list, and a place past the run is where the rest begins. Assumes nothing.
+use Prim.Native.Nat.{ℕ, _+_, _≤_}
+use mathlib.Core.Path.{_≡_, refl, sym, ap, _∙_}
+use mathlib.Core.Bool.{Bool, true, false}
+use mathlib.Core.List.{List, [], _∷_, _++_}
+use native.Mathlib.Omega.{arith}
+use lib.ListN.{length, drop}
+use lib.Seq.{drop-drop}
+use Rattle.plain.specs.Choice.{if_then_else_}
+use Rattle.plain.specs.Runs.{run, skip, past}
+
+-- a run and what follows it are the list
+pub run-skip : (p : ℕ → Bool) (bs : List ℕ) → run p bs ++ skip p bs ≡ bs
+run-skip p [] = refl
+run-skip p (b ∷ bs) = by (p b) (run-skip p bs)
+  where
+    by : (t : Bool) → run p bs ++ skip p bs ≡ bs → (if t then b ∷ run p bs else []) ++ (if t then skip p bs else (b ∷ bs)) ≡ b ∷ bs
+    by true e = ap (λ (l : List ℕ). b ∷ l) e
+    by false e = refl
+
+pub run-length : (p : ℕ → Bool) (bs : List ℕ) → length (run p bs) ≤ length bs
+run-length p [] = omega arith
+run-length p (b ∷ bs) = by (p b) (run-length p bs)
+  where
+    by : (t : Bool) → length (run p bs) ≤ length bs → length (if t then b ∷ run p bs else []) ≤ length (b ∷ bs)
+    by true h = omega arith
+    by false h = omega arith
+
+pub skip-length : (p : ℕ → Bool) (bs : List ℕ) → length (skip p bs) ≤ length bs
+skip-length p [] = omega arith
+skip-length p (b ∷ bs) = by (p b) (skip-length p bs)
+  where
+    by : (t : Bool) → length (skip p bs) ≤ length bs → length (if t then skip p bs else (b ∷ bs)) ≤ length (b ∷ bs)
+    by true h = omega arith
+    by false h = omega arith
+
+-- what is left past the run is what follows it
+pub drop-run : (p : ℕ → Bool) (bs : List ℕ) → drop (length (run p bs)) bs ≡ skip p bs
+drop-run p [] = refl
+drop-run p (b ∷ bs) = by (p b) (drop-run p bs)
+  where
+    by : (t : Bool) → drop (length (run p bs)) bs ≡ skip p bs → drop (length (if t then b ∷ run p bs else [])) (b ∷ bs) ≡ (if t then skip p bs else (b ∷ bs))
+    by true e = e
+    by false e = refl
+
+pub drop-past : (p : ℕ → Bool) (bs : List ℕ) (i : ℕ) → drop (past p bs i) bs ≡ skip p (drop i bs)
+unfolding past
+drop-past p bs i = sym (drop-drop (length (run p (drop i bs))) i bs) ∙ drop-run p (drop i bs)

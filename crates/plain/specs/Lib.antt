@@ -1,0 +1,6 @@
+-- Words of the definitions.
+pub mod Choice
+pub mod Doubles
+pub mod Bytes
+pub mod Runs
+pub mod Sizes

@@ -1,0 +1,7 @@
+//! The twin: document 01 implemented a second time, without looking at the proved library.
+//! What it answers is what the library is compared with, bit for bit.
+
+pub mod angle;
+pub mod builtin;
+pub mod refusal;
+pub mod rotation;

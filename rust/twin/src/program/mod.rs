@@ -1,0 +1,4 @@
+//! The subcommands, one a file.
+
+pub mod bits;
+pub mod orientations;
