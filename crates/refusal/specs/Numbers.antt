@@ -1,0 +1,24 @@
+-- "Refusal numbers": the table, a line for each refusal; "success is number 0". Definitions only.
+use Prim.Native.Nat.{ℕ}
+use Rattle.refusal.specs.declared.Refusal.{Refusal}
+use Rattle.refusal.specs.declared.Refusal.the-variants as R
+
+abbrev pub SUCCESS : ℕ
+SUCCESS = 0
+
+abbrev pub numberOf : Refusal → ℕ
+numberOf R.LabelHeld = 1
+numberOf R.TextTooLong = 2
+numberOf R.LineTooLong = 3
+numberOf R.BadByte = 4
+numberOf R.Syntax = 5
+numberOf R.Number = 6
+numberOf R.NoRoom = 7
+numberOf R.NotHeld = 8
+numberOf R.Epoch = 9
+numberOf R.UnknownBody = 10
+numberOf R.Incomplete = 11
+numberOf R.WrongCount = 12
+numberOf R.NoVariable = 13
+numberOf R.ShortBuffer = 14
+numberOf R.DamagedPool = 15

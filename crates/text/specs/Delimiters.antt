@@ -1,0 +1,31 @@
+-- "A line that, without outer blanks, is exactly `\begindata` or `\begintext` opens the section it names." Definitions only.
+use Prim.Native.Nat.{ℕ}
+use mathlib.Core.Bool.{Bool, true, false, _&&_}
+use mathlib.Core.List.{List, [], _∷_}
+use lib.Dec.{eqb}
+use Rattle.plain.specs.Choice.{if_then_else_}
+use Rattle.plain.specs.Runs.{skip, none}
+use Rattle.text.specs.Classes.{blank}
+use Rattle.text.specs.declared.Mark.{Mark}
+use Rattle.text.specs.declared.Mark.the-variants as M
+
+-- \begindata
+abbrev pub BEGINDATA : List ℕ
+BEGINDATA = 92 ∷ 98 ∷ 101 ∷ 103 ∷ 105 ∷ 110 ∷ 100 ∷ 97 ∷ 116 ∷ 97 ∷ []
+
+-- \begintext
+abbrev pub BEGINTEXT : List ℕ
+BEGINTEXT = 92 ∷ 98 ∷ 101 ∷ 103 ∷ 105 ∷ 110 ∷ 116 ∷ 101 ∷ 120 ∷ 116 ∷ []
+
+-- the bytes are the word, and then blanks only
+abbrev pub word : List ℕ → List ℕ → Bool
+word [] bs = none (skip blank bs)
+word (w ∷ ws) [] = false
+word (w ∷ ws) (b ∷ bs) = eqb b w && word ws bs
+
+-- the line without outer blanks is exactly the word
+abbrev pub exactly : List ℕ → List ℕ → Bool
+exactly w line = word w (skip blank line)
+
+unfoldable pub markOf : List ℕ → Mark
+markOf line = if exactly BEGINDATA line then M.Data else (if exactly BEGINTEXT line then M.Text else M.Plain)

@@ -1,0 +1,9 @@
+-- Document 01, "Text rules", in its order.
+pub mod Lines
+pub mod Classes
+pub mod Delimiters
+pub mod Faults
+pub mod Values
+pub mod Statements
+pub mod Line
+pub mod Text

@@ -1,0 +1,75 @@
+-- The answer to one line: what it adds and how the reader stands after it, or its first fault. Definitions only.
+use Prim.Native.Nat.{ℕ, _-_}
+use mathlib.Core.Bool.{Bool, true, false}
+use mathlib.Core.List.{List, [], _∷_, _++_, map}
+use lib.Dec.{ltb}
+use lib.Ieee.{Float}
+use lib.ListN.{length, take, drop}
+use Rattle.plain.specs.Choice.{if_then_else_}
+use Rattle.plain.specs.Runs.{past}
+use Rattle.text.specs.Lines.{LONGEST}
+use Rattle.text.specs.Classes.{fair}
+use Rattle.text.specs.Delimiters.{markOf}
+use Rattle.text.specs.Values.{Given, given, wrong, listed, givenAt}
+use Rattle.text.specs.Statements.{Event, opened, value, head, openings, givings}
+use Rattle.text.specs.declared.Answer.{Answer}
+use Rattle.text.specs.declared.Answer.the-variants as A
+use Rattle.text.specs.declared.Fault.{Fault}
+use Rattle.text.specs.declared.Fault.the-variants as F
+use Rattle.text.specs.declared.Head.{Head}
+use Rattle.text.specs.declared.Head.the-variants as H
+use Rattle.text.specs.declared.Mark.{Mark}
+use Rattle.text.specs.declared.Mark.the-variants as M
+use Rattle.text.specs.declared.Reader.{Reader}
+use Rattle.text.specs.declared.Reader.the-variants as R
+
+pub data Outcome : Type 0 where
+  next : Reader → List Event → Outcome
+  fault : Fault → (place : ℕ) → Outcome
+
+-- values after some first events
+abbrev pub adding : List Event → Given → Outcome
+adding es (given r xs) = next r (es ++ map value xs)
+adding es (wrong q k) = fault q k
+
+-- ---- a data line
+
+-- a statement, or a line of blanks
+abbrev pub stated : List ℕ → Head → Outcome
+stated line H.Blank = next R.Data []
+stated line (H.Named n e o i) = adding (opened (take (e - n) (drop n line)) o ∷ []) (givenAt line i)
+stated line (H.Fault q k) = fault q k
+
+-- "Data lines hold bytes 32 to 126 and tabs only": the first that is none of them, before all else
+abbrev pub fairly : List ℕ → Outcome → Outcome
+fairly line o = if ltb (past fair line 0) (length line) then fault F.BadByte (past fair line 0) else o
+
+-- ---- any line
+
+-- "A delimiter line inside an open list is SYNTAX there"
+abbrev pub section : Reader → Reader → Outcome
+section R.Text r = next r []
+section R.Data r = next r []
+section R.Open r = fault F.OpenList 0
+section R.Filled r = fault F.OpenList 0
+
+-- a line that is no delimiter: "text-section lines are skipped, their bytes unread"
+abbrev pub plain : Reader → List ℕ → Outcome
+plain R.Text line = next R.Text []
+plain R.Data line = fairly line (stated line (head line))
+plain R.Open line = fairly line (adding [] (listed false line 0))
+plain R.Filled line = fairly line (adding [] (listed true line 0))
+
+abbrev pub marked : Mark → Reader → List ℕ → Outcome
+marked M.Data r line = section r R.Data
+marked M.Text r line = section r R.Text
+marked M.Plain r line = plain r line
+
+unfoldable pub answered : Reader → List ℕ → Outcome
+answered r line = if ltb LONGEST (length line) then fault F.TooLong LONGEST else marked (markOf line) r line
+
+-- ---- the answer as the code gives it: how many statements are opened and how many values given
+
+abbrev pub counted : Outcome → Answer
+counted (next r es) = A.Next r (openings es) (givings es)
+counted (fault q k) = A.Fault q k

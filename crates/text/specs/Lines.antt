@@ -1,0 +1,28 @@
+-- "Lines end at LF; one CR just before it is dropped, and length is counted without it; a last line needs no LF, and after a final LF
+-- there is no further line; lines count from 1. No line is over 79 bytes, text sections included." Definitions only.
+use Prim.Native.Nat.{ℕ}
+use mathlib.Core.Bool.{Bool, true, false, _&&_}
+use mathlib.Core.List.{List, [], _∷_}
+use lib.Dec.{eqb}
+use Rattle.plain.specs.Choice.{if_then_else_}
+use Rattle.plain.specs.Bytes.{LF, CR}
+
+-- the longest line
+abbrev pub LONGEST : ℕ
+LONGEST = 79
+
+-- a byte before the first of some lines, or alone on a last line
+abbrev pub before : ℕ → List (List ℕ) → List (List ℕ)
+before b [] = (b ∷ []) ∷ []
+before b (l ∷ ls) = (b ∷ l) ∷ ls
+
+-- a list opens with an LF
+abbrev pub atLF : List ℕ → Bool
+atLF [] = false
+atLF (b ∷ bs) = eqb b LF
+
+unfoldable pub lines : List ℕ → List (List ℕ)
+lines [] = []
+lines (b ∷ bs) =
+    if eqb b LF then [] ∷ lines bs
+    else (if eqb b CR && atLF bs then lines bs else before b (lines bs))
