@@ -18,26 +18,34 @@ use Rattle.text.specs.declared.Item.{Item}
 use Rattle.text.specs.declared.Item.the-variants as I
 use Rattle.text.specs.declared.Stop.{Stop}
 use Rattle.text.specs.declared.Stop.the-variants as S
+use Rattle.text.specs.declared.Taken.{Taken}
+use Rattle.text.specs.declared.Taken.the-variants as T
+use Rattle.text.specs.declared.Word.{Word}
+use Rattle.text.specs.declared.Word.the-variants as W
 use Rattle.text.specs.declared.Reader.{Reader}
 use Rattle.text.specs.declared.Reader.the-variants as R
 
 -- ---- one value
 
 -- what a value's bytes from i to `end` are to the line: the number and the place after it, or a fault where they start
-abbrev pub told : Reading → (i end : ℕ) → Item
-told (D.Number x) i end = I.Number x end
-told D.BadForm i end = I.Fault F.BadValue i
-told D.OutsideClass i end = I.Fault F.OutsideClass i
+abbrev pub told : Reading → (i end : ℕ) → Word
+told (D.Number x) i end = W.Number x end
+told D.BadForm i end = W.Fault F.BadValue i
+told D.OutsideClass i end = W.Fault F.OutsideClass i
 
 -- "A value is a maximal run without blank, comma or bracket."
-unfoldable pub valueAt : List ℕ → ℕ → Item
+unfoldable pub valueAt : List ℕ → ℕ → Word
 valueAt line i = told (reading (run valueByte (drop i line))) i (past valueByte line i)
 
 -- ---- the values of a list
 
+abbrev pub asItem : Word → Item
+asItem (W.Number x end) = I.Number x end
+asItem (W.Fault q k) = I.Fault q k
+
 -- what a list has at place i: the line's end, its `)`, or a value. A second `(` is no value, and so a fault where it stands
 abbrev pub itemAt : List ℕ → ℕ → Item
-itemAt line i = if ltb i (length line) then (if stands CLOSE line i then I.Close i else valueAt line i) else I.End
+itemAt line i = if ltb i (length line) then (if stands CLOSE line i then I.Close i else asItem (valueAt line i)) else I.End
 
 -- what a list has next, after separators
 unfoldable pub item : List ℕ → ℕ → Item
@@ -91,12 +99,15 @@ unfoldable pub listed : (filled : Bool) → List ℕ → ℕ → Given
 listed filled line i = listEnd filled (items line i .numbers) line (items line i .stop)
 
 -- one number alone, and then the rest of the line
-abbrev pub alone : List ℕ → Item → Given
-alone line (I.Number x k) = rest (x ∷ []) line k
-alone line (I.Fault q k) = wrong q k
-alone line (I.Close k) = wrong F.BadValue k
-alone line I.End = wrong F.BadValue (length line)
+abbrev pub alone : List ℕ → Word → Given
+alone line (W.Number x k) = rest (x ∷ []) line k
+alone line (W.Fault q k) = wrong q k
 
 -- after the operator: a list, or a number
 unfoldable pub givenAt : List ℕ → ℕ → Given
 givenAt line i = if stands OPEN line i then listed false line (i + 1) else alone line (valueAt line i)
+
+-- the same as the code gives it: how many numbers
+abbrev pub taken : Given → Taken
+taken (given r xs) = T.Values r (length xs)
+taken (wrong q k) = T.Fault q k

@@ -25,6 +25,11 @@ pub enum Fault {
     OutsideClass,
 }
 
+pub enum Word {
+    Number(f64, usize),
+    Fault(Fault, usize),
+}
+
 pub enum Item {
     End,
     Close(usize),
@@ -54,6 +59,11 @@ pub enum Reader {
     Data,
     Open,
     Filled,
+}
+
+pub enum Taken {
+    Values(Reader, usize),
+    Fault(Fault, usize),
 }
 
 pub enum Answer {
