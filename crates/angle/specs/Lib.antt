@@ -1,0 +1,4 @@
+-- Document 01, "Evaluation": wrap, and sine and cosine of degrees.
+pub mod Wrap
+pub mod Series
+pub mod Sine
