@@ -1,0 +1,8 @@
+-- Document 01, "Evaluation" and the built-in part of "Elements wanted".
+pub mod Epochs
+pub mod Elements
+pub mod Matrix
+pub mod Evaluation
+pub mod Codes
+pub mod Table
+pub mod Builtin

@@ -1,0 +1,31 @@
+// "Evaluation", in its order: days and centuries, polynomials, nutation, wrap and matrix.
+use super::elements;
+use super::elements::Elements;
+use super::epoch;
+use super::matrix;
+use super::matrix::Orientation;
+use super::nutation;
+use super::nutation::Wave;
+ghost use mathlib.Core.Path.{_≡_};
+ghost use Rattle.rotation.specs.Elements.{Enough};
+ghost use Rattle.rotation.specs.Evaluation.{evaluated};
+
+// The orientation by elements, the system's angles and the coefficients of RA, DEC and PM.
+pub fn evaluate(
+    e: Elements,
+    epoch: f64,
+    angles: &[f64],
+    ra: &[f64],
+    dec: &[f64],
+    pm: &[f64],
+) -> Orientation
+    requires { ⌜ Enough (now angles) (now ra) (now dec) (now pm) ⌝ }
+    ensures { λ r. ⌜ r ≡ evaluated e epoch (now (angles .entry)) (now (ra .entry)) (now (dec .entry)) (now (pm .entry)) ⌝ }
+{
+    let d = epoch::in_days(epoch);
+    let t = epoch::in_centuries(d);
+    let x = nutation::nutate(Wave::Sine, t, angles, ra, elements::by_century(e.ra, t));
+    let y = nutation::nutate(Wave::Cosine, t, angles, dec, elements::by_century(e.dec, t));
+    let z = nutation::nutate(Wave::Sine, t, angles, pm, elements::by_day(e.pm, d));
+    matrix::orient(x, y, z)
+}
