@@ -1,0 +1,47 @@
+-- A name as four words: its bytes from the most significant down, zeros after it. Definitions only.
+use Prim.Native.Nat.{ℕ, zero, suc, _+_, _*_, _/_, _%_}
+use mathlib.Core.Bool.{Bool, true, false, _&&_}
+use mathlib.Core.List.{List, [], _∷_, _++_}
+use lib.Dec.{eqb, leb}
+use lib.ListN.{length, take, drop, getD}
+use Rattle.plain.specs.Runs.{run, skip}
+use Rattle.plain.specs.Bytes.{within}
+use Rattle.text.specs.Classes.{nameByte}
+use Rattle.text.specs.Statements.{NAME}
+use Rattle.words.specs.Halves.{all}
+
+-- "Name: the longest run of letters, digits or underscores, 1 to 32 of them"
+unfoldable pub legal : List ℕ → Bool
+legal name = within 1 NAME (length name) && all nameByte name
+
+-- the word of eight bytes from place k on, the first one highest; past the end they are zeros
+abbrev pub wordAt : List ℕ → ℕ → ℕ
+wordAt bs k =
+    getD bs k 0 * 72057594037927936 + getD bs (k + 1) 0 * 281474976710656 + getD bs (k + 2) 0 * 1099511627776
+    + getD bs (k + 3) 0 * 4294967296 + getD bs (k + 4) 0 * 16777216 + getD bs (k + 5) 0 * 65536 + getD bs (k + 6) 0 * 256
+    + getD bs (k + 7) 0
+
+-- a name's four words
+abbrev pub packed : List ℕ → List ℕ
+packed name = wordAt name 0 ∷ wordAt name 8 ∷ wordAt name 16 ∷ wordAt name 24 ∷ []
+
+-- a word's eight bytes, the highest first
+abbrev pub bytesOf : ℕ → List ℕ
+bytesOf w =
+    w / 72057594037927936 % 256 ∷ w / 281474976710656 % 256 ∷ w / 1099511627776 % 256 ∷ w / 4294967296 % 256 ∷ w / 16777216 % 256
+    ∷ w / 65536 % 256 ∷ w / 256 % 256 ∷ w % 256 ∷ []
+
+-- the bytes of some words
+unfoldable pub bytes : List ℕ → List ℕ
+bytes [] = []
+bytes (w ∷ ws) = bytesOf w ++ bytes ws
+
+-- the name that words hold
+unfoldable pub unpacked : List ℕ → List ℕ
+unfolding bytes
+unpacked ws = run nameByte (bytes ws)
+
+-- they hold a legal name, and zeros after it
+unfoldable pub holdsName : List ℕ → Bool
+unfolding bytes unpacked
+holdsName ws = leb 1 (length (unpacked ws)) && all (eqb 0) (skip nameByte (bytes ws))

@@ -1,0 +1,1 @@
+// A pool's memory: its areas, and whether it is damaged.

@@ -1,0 +1,3 @@
+-- Lists of memory words.
+pub mod Over
+pub mod Halves

@@ -1,0 +1,1 @@
+// Lists of memory words: nothing here knows what the words mean.
