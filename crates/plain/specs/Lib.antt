@@ -4,3 +4,4 @@ pub mod Doubles
 pub mod Bytes
 pub mod Runs
 pub mod Sizes
+pub mod Lists

@@ -1,0 +1,8 @@
+-- The calls on a pool: what each answers, and the memory that it leaves.
+pub mod Replies
+pub mod Variables
+pub mod Empty
+pub mod Load
+pub mod Remove
+pub mod Fetch
+pub mod Totals

@@ -1,0 +1,68 @@
+-- Load: "a text is accepted exactly when its label is not held, the rules admit it and the undamaged pool has room." "Order: 15 first;
+-- then by call 1, 2, the first faulty line .., 7." Definitions only.
+use Prim.Native.Nat.{ℕ}
+use mathlib.Core.Path.{_≡_}
+use mathlib.Core.Bool.{Bool, true, false}
+use mathlib.Core.List.{List, [], _∷_, _++_}
+use lib.Dec.{eqb, ltb}
+use lib.ListN.{length}
+use Rattle.plain.specs.Choice.{if_then_else_}
+use Rattle.refusal.specs.declared.Refusal.the-variants.{LabelHeld, TextTooLong, NoRoom, DamagedPool}
+use Rattle.text.specs.Faults.{refusalOf}
+use Rattle.text.specs.Statements.{Event, statements}
+use Rattle.text.specs.Text.{Read, fine, refused, readText}
+use Rattle.layout.specs.State.{Text, Pool}
+use Rattle.layout.specs.Limits.{room}
+use Rattle.layout.specs.Memory.{decode, put}
+use Rattle.layout.specs.Damage.{sound}
+use Rattle.pool.specs.Replies.{done, refusing}
+use Rattle.pool.specs.declared.reply.Reply.{Reply}
+use Rattle.pool.specs.declared.reply.Reply.the-variants.{Done, Refused}
+
+-- the longest text, in bytes
+abbrev pub LONGEST : ℕ
+LONGEST = 65536
+
+-- the label is held
+unfoldable pub held : ℕ → Pool → Bool
+held label [] = false
+held label (t ∷ ts) = if eqb (t .label) label then true else held label ts
+
+-- what a text adds, if the rules admit it
+abbrev pub added : Read → List Event
+added (fine es) = es
+added (refused q line place) = []
+
+-- the text under its label
+unfoldable pub textOf : (label : ℕ) (bytes : List ℕ) → Text
+textOf label bytes = record { label = label; body = statements (added (readText bytes)) }
+
+-- the state with one text more: "taking out a label and loading it again puts it last"
+abbrev pub with : Pool → Text → Pool
+with s t = s ++ (t ∷ [])
+
+-- by what reading the text gave, and whether there is room
+abbrev pub admitted : Read → (room : Bool) → Reply
+admitted (fine es) true = Done
+admitted (fine es) false = refusing NoRoom
+admitted (refused q line place) room = Refused (refusalOf q) line
+
+-- on the state
+unfoldable pub loadAnswer : (label : ℕ) (bytes : List ℕ) → Pool → Reply
+loadAnswer label bytes s =
+    if held label s then refusing LabelHeld
+    else (if ltb LONGEST (length bytes) then refusing TextTooLong
+    else admitted (readText bytes) (room (with s (textOf label bytes))))
+
+unfoldable pub loadReply : (label : ℕ) (bytes m : List ℕ) → Reply
+unfolding loadAnswer
+loadReply label bytes m = if sound m then loadAnswer label bytes (decode m) else refusing DamagedPool
+
+unfoldable pub loadMemory : (label : ℕ) (bytes m : List ℕ) → List ℕ
+unfolding loadReply
+loadMemory label bytes m = if done (loadReply label bytes m) then put (with (decode m) (textOf label bytes)) m else m
+
+-- the whole contract
+pub record Loads (label : ℕ) (bytes before : List ℕ) (r : Reply) (after : List ℕ) : Type 0 where
+  pub reply : r ≡ loadReply label bytes before
+  pub memory : after ≡ loadMemory label bytes before

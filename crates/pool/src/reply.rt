@@ -1,0 +1,20 @@
+// What the calls on a pool answer.
+use refusal::Refusal;
+
+// The answer of a call that changes the pool. The line is that of a fault in a text, and 0 otherwise.
+pub enum Reply {
+    Done,
+    Refused(Refusal, usize),
+}
+
+// The answer of fetch: how many values were written.
+pub enum Fetched {
+    Count(usize),
+    Refused(Refusal),
+}
+
+// The totals held: texts, statements, values.
+pub enum Counts {
+    Held(usize, usize, usize),
+    Refused(Refusal),
+}
