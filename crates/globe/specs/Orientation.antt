@@ -1,0 +1,47 @@
+-- The call for an orientation: "Order: 15 first; .. 9, 10, 11, 12. Fifteen is not checked where the built-in source is named."
+-- Definitions only.
+use Prim.Native.Nat.{ℕ}
+use mathlib.Core.Path.{_≡_}
+use mathlib.Core.List.{List}
+use lib.Ieee.{Float}
+use Rattle.plain.specs.Choice.{if_then_else_}
+use Rattle.refusal.specs.declared.Refusal.the-variants.{Epoch, UnknownBody, Incomplete, WrongCount, DamagedPool}
+use Rattle.rotation.specs.Epochs.{inReach}
+use Rattle.rotation.specs.Codes.{systemOf}
+use Rattle.rotation.specs.Evaluation.{evaluated}
+use Rattle.rotation.specs.Builtin.{builtinOrientation}
+use Rattle.rotation.specs.declared.code.System.{System}
+use Rattle.rotation.specs.declared.code.System.the-variants.{Of, Nowhere}
+use Rattle.rotation.specs.declared.matrix.Oriented.{Oriented}
+use Rattle.rotation.specs.declared.matrix.Oriented.the-variants.{Given, Refused}
+use Rattle.layout.specs.State.{Pool}
+use Rattle.layout.specs.Memory.{decode}
+use Rattle.layout.specs.Damage.{sound}
+use Rattle.globe.specs.Elements.{noneThere, complete, wellCounted, elements, angles, list}
+use Rattle.globe.specs.declared.name.Wanted.the-variants as W
+use Rattle.globe.specs.declared.source.Source.{Source}
+use Rattle.globe.specs.declared.source.Source.the-variants as S
+
+-- by the elements of a body of a known system
+abbrev pub byElements : Pool → (n : ℕ) → (epoch : Float) → System → Oriented
+byElements s n epoch Nowhere = Refused UnknownBody
+byElements s n epoch (Of k) =
+    if noneThere s n then Refused UnknownBody
+    else (if complete s n k
+    then (if wellCounted s n k
+    then Given (evaluated (elements s n) epoch (angles s n k) (list s n W.NutPrecRa) (list s n W.NutPrecDec) (list s n W.NutPrecPm))
+    else Refused WrongCount)
+    else Refused Incomplete)
+
+-- from the texts of an undamaged pool
+unfoldable pub orientationFrom : Pool → (n : ℕ) → (epoch : Float) → Oriented
+orientationFrom s n epoch = if inReach epoch then byElements s n epoch (systemOf n) else Refused Epoch
+
+unfoldable pub orientationReply : Source → (m : List ℕ) → (n : ℕ) → (epoch : Float) → Oriented
+unfolding orientationFrom
+orientationReply S.Builtin m n epoch = builtinOrientation n epoch
+orientationReply S.Pool m n epoch = if sound m then orientationFrom (decode m) n epoch else Refused DamagedPool
+
+-- the whole contract
+pub record Orients (source : Source) (memory : List ℕ) (n : ℕ) (epoch : Float) (r : Oriented) : Type 0 where
+  pub reply : r ≡ orientationReply source memory n epoch

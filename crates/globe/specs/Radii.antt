@@ -1,0 +1,45 @@
+-- The call for radii: "BODYn_RADII absent: 10; not three values: 12." Definitions only.
+use Prim.Native.Nat.{ℕ}
+use mathlib.Core.Path.{_≡_}
+use mathlib.Core.List.{List}
+use lib.Dec.{eqb}
+use lib.Ieee.{Float, nan}
+use lib.ListN.{length, getD}
+use Rattle.plain.specs.Choice.{if_then_else_}
+use Rattle.refusal.specs.declared.Refusal.the-variants.{UnknownBody, WrongCount, DamagedPool}
+use Rattle.rotation.specs.Codes.{systemOf}
+use Rattle.rotation.specs.Builtin.{builtinRadii}
+use Rattle.rotation.specs.declared.code.System.{System}
+use Rattle.rotation.specs.declared.code.System.the-variants.{Of, Nowhere}
+use Rattle.rotation.specs.declared.table.Axes.{Axes}
+use Rattle.rotation.specs.declared.table.Radii.{Radii}
+use Rattle.rotation.specs.declared.table.Radii.the-variants.{Given, Refused}
+use Rattle.layout.specs.State.{Pool}
+use Rattle.layout.specs.Memory.{decode}
+use Rattle.layout.specs.Damage.{sound}
+use Rattle.globe.specs.Elements.{there, list}
+use Rattle.globe.specs.declared.name.Wanted.the-variants as W
+use Rattle.globe.specs.declared.source.Source.{Source}
+use Rattle.globe.specs.declared.source.Source.the-variants as S
+
+abbrev pub axes : List Float → Axes
+axes xs = record { a = getD xs 0 nan; b = getD xs 1 nan; c = getD xs 2 nan }
+
+abbrev pub bySystem : Pool → (n : ℕ) → System → Radii
+bySystem s n Nowhere = Refused UnknownBody
+bySystem s n (Of k) =
+    if there s n W.Radii
+    then (if eqb (length (list s n W.Radii)) 3 then Given (axes (list s n W.Radii)) else Refused WrongCount)
+    else Refused UnknownBody
+
+unfoldable pub radiiFrom : Pool → (n : ℕ) → Radii
+radiiFrom s n = bySystem s n (systemOf n)
+
+unfoldable pub radiiReply : Source → (m : List ℕ) → (n : ℕ) → Radii
+unfolding radiiFrom
+radiiReply S.Builtin m n = builtinRadii n
+radiiReply S.Pool m n = if sound m then radiiFrom (decode m) n else Refused DamagedPool
+
+-- the whole contract
+pub record Measures (source : Source) (memory : List ℕ) (n : ℕ) (r : Radii) : Type 0 where
+  pub reply : r ≡ radiiReply source memory n
