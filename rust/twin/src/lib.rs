@@ -2,6 +2,13 @@
 //! What it answers is what the library is compared with, bit for bit.
 
 pub mod angle;
+pub mod answers;
 pub mod builtin;
+pub mod decimal;
+pub mod layout;
+pub mod limits;
+pub mod listing;
+pub mod pool;
 pub mod refusal;
 pub mod rotation;
+pub mod text;

@@ -3,8 +3,11 @@
 mod program;
 
 use std::env;
-use std::io::{self, Write};
+use std::io::{self, Read, Write};
 use std::process::ExitCode;
+
+const SUBCOMMANDS: &str =
+    "subcommands: orientations, texts-input, texts, histories-input, histories, listing";
 
 fn main() -> ExitCode {
     let subcommand = env::args().nth(1).unwrap_or_default();
@@ -21,12 +24,19 @@ fn run(subcommand: &str) -> io::Result<()> {
     let mut out = io::BufWriter::new(io::stdout().lock());
     match subcommand {
         "orientations" => program::orientations::write(&mut out)?,
-        _ => {
-            return Err(io::Error::new(
-                io::ErrorKind::InvalidInput,
-                "subcommands: orientations",
-            ))
-        }
+        "texts-input" => program::texts::write_input(&mut out)?,
+        "texts" => program::texts::write(&input()?, &mut out)?,
+        "histories-input" => program::histories::write_input(&mut out)?,
+        "histories" => program::histories::write(&input()?, &mut out)?,
+        "listing" => program::listing::write(&mut out)?,
+        _ => return Err(io::Error::new(io::ErrorKind::InvalidInput, SUBCOMMANDS)),
     }
     out.flush()
+}
+
+/// All of standard input.
+fn input() -> io::Result<Vec<u8>> {
+    let mut bytes = Vec::new();
+    io::stdin().lock().read_to_end(&mut bytes)?;
+    Ok(bytes)
 }

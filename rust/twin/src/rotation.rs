@@ -94,10 +94,8 @@ pub fn evaluate(elements: &Elements, nutation: &Nutation, epoch: f64) -> Orienta
     let mut ra = at_century(&elements.ra, centuries);
     let mut dec = at_century(&elements.dec, centuries);
     let mut w = at_day(&elements.pm, days);
-    for (i, pair) in nutation.angles.chunks_exact(2).enumerate() {
-        if i == nutation.terms() {
-            break;
-        }
+    let pairs = nutation.angles.chunks_exact(2);
+    for (i, pair) in pairs.take(nutation.terms()).enumerate() {
         let (sine, cosine) = sine_cosine(pair[0] + centuries.0 * pair[1]);
         if let Some(coefficient) = nutation.ra.get(i) {
             ra += coefficient * sine;

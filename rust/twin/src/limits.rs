@@ -1,0 +1,30 @@
+//! The limits of document 01, each under its name.
+
+/// The bytes of a text that can be loaded.
+pub const TEXT_BYTES: usize = 65_536;
+
+/// The bytes of a line, its end not counted.
+pub const LINE_BYTES: usize = 79;
+
+/// The bytes of a name.
+pub const NAME_BYTES: usize = 32;
+
+/// The largest whole number that a value's digits may give: 2^53.
+pub const LARGEST_WHOLE: u64 = 9_007_199_254_740_992;
+
+/// The largest power of ten that a value may be multiplied with or divided by.
+pub const LARGEST_POWER: u64 = 22;
+
+/// The texts, statements and values of a pool.
+pub const TEXTS: usize = 16;
+pub const STATEMENTS: usize = 512;
+pub const VALUES: usize = 3_072;
+
+/// Held values are below 2 to this power in size.
+pub const VALUE_EXPONENT: u64 = 200;
+
+/// The values of a pole or meridian variable, of the angles, and of one list of coefficients:
+/// two values an angle, one coefficient an angle.
+pub const POLYNOMIAL_VALUES: usize = 3;
+pub const ANGLE_VALUES: usize = 64;
+pub const COEFFICIENTS: usize = ANGLE_VALUES / 2;

@@ -1,0 +1,556 @@
+//! The texts that readers are compared on: every rule of document 01's "Text rules", its faults
+//! and its limits on both sides, kernels of the source documents, and mixtures of all that.
+
+use super::random::Random;
+
+const KERNELS: [&[u8]; 7] = [
+    include_bytes!("../../kernels/planets.tpc"),
+    include_bytes!("../../kernels/radii.tpc"),
+    include_bytes!("../../kernels/moon.tpc"),
+    include_bytes!("../../kernels/mars-moons.tpc"),
+    include_bytes!("../../kernels/triton.tpc"),
+    include_bytes!("../../kernels/mars-example.tpc"),
+    include_bytes!("../../kernels/mars-example-short.tpc"),
+];
+
+/// How many mixtures follow the written texts.
+const MIXTURES: usize = 240;
+
+/// Whole texts: sections, delimiters and line ends.
+const WHOLE: &[&str] = &[
+    "",
+    "\n",
+    "\n\n\n\n",
+    "\r\n",
+    "\r\n\r\n",
+    "\r",
+    "\r\r\n",
+    " ",
+    "\t\n \n",
+    "X = 1",
+    "X = 1\n",
+    "= ( ) += 1E99\n",
+    "note\n\\begindata\nBODY499_RADII = ( 3397, 3397\n   3375 )\nBODY499_PM = 0.5\nBODY499_PM += -2D0\n",
+    "\\begindata",
+    "\\begindata\n",
+    "\\begindata\r\n",
+    "\\begindata\r",
+    "\\begindata\r\r\nX = 1\n",
+    "\\begindata\nX = 1",
+    "\\begindata\nX = 1\n",
+    "\\begindata\nX = 1\r\n",
+    "\\begindata\r\nX = 1\r\nY = 2\r\n",
+    "\\begindata\nX = 1\r",
+    "\\begindata\nX = 1\r\r\n",
+    "\\begindata\nX = \r1\n",
+    "\\begindata\nX = 1\rY = 2\n",
+    "\\begindata\n\r\n",
+    "\\begindata\n\r",
+    "\\begindata\n\r\r\n",
+    "\\begindata\n \r\n",
+    "\\begindata\n\\begintext\r",
+    "\\begindata\n\\begintext\r\nX = ?\n",
+    "\\begindata\n\\begintext\r\r\n",
+    "\\begintext",
+    "\\begintext\nX = 1\n",
+    "\\begintext\n\\begindata\nX = 1\n",
+    "  \\begindata\nX = 1\n",
+    "\\begindata  \nX = 1\n",
+    "\t\\begindata\t \nX = 1\n",
+    "\\begindata\n\\begindata\nX = 1\n\\begindata\nY = 2\n",
+    "\\begindata\nX = 1\n\\begintext\nX = ?\n\\begintext\n?\n\\begindata\nX += 2\n",
+    "\\begindata\nX = 1\n \t\\begintext \t\n?\n",
+    "\\begindata\n\n\nX = 1\n\n\n\\begintext\n\n\n\\begindata\n\nY = 2\n\n",
+    "\\begindatax\nX = 1\n",
+    "x\\begindata\nX = 1\n",
+    "\\begindata X = 1\nX = 2\n",
+    "\\begindata \\begindata\nX = 1\n",
+    "\\begindata\\begintext\nX = 1\n",
+    "\\BEGINDATA\nX = 1\n",
+    "\\Begindata\nX = 1\n",
+    "\\begin data\nX = 1\n",
+    "\\ begindata\nX = 1\n",
+    "begindata\nX = 1\n",
+    "/begindata\nX = 1\n",
+    "\\begin{data}\nX = 1\n",
+    "\\begindat\nX = 1\n",
+    "\\begintex\n\\begindata\nX = 1\n",
+    "\u{b}\\begindata\nX = 1\n",
+    "\\begindata\u{c}\nX = 1\n",
+    "\u{a0}\\begindata\nX = 1\n",
+    "\\begindata\n\\begintextx\n",
+    "\\begindata\nx\\begintext\n",
+    "\\begindata\n\\begintext x\n",
+    "\\begindata\n\\begindata x\n",
+    "\\begindata\nX = 1 \\begintext\n",
+    "\\begindata\nX = \\begintext\n",
+    "\\begindata\nX = ( 1 \\begintext )\n",
+];
+
+/// Data sections: names, operators, values, lists, rests, and their faults.
+const DATA: &[&str] = &[
+    // names
+    "A=1",
+    "a = 1\nA = 2",
+    "_ = 1",
+    "9 = 1",
+    "0x = 1",
+    "BODY4_PM = 1",
+    "X.Y = 1",
+    "X-Y = 1",
+    "X Y = 1",
+    "-X = 1",
+    "X# = 1",
+    "'X' = 1",
+    "X(1) = 1",
+    "X, = 1",
+    ", X = 1",
+    "= 1",
+    "+= 1",
+    "( 1 )",
+    ")",
+    ",",
+    "1",
+    "1 2 3",
+    // operators
+    "X=1\nX =2\nX= 3\nX  =  4\nX\t=\t5",
+    "X+=1\nX +=2\nX+= 3\nX  +=  4\nX\t+=\t5",
+    "X=+1\nX=-1\nX+=+1\nX+=-1",
+    "X",
+    "X ",
+    "X 1",
+    "X ( 1 )",
+    "X =",
+    "X = ",
+    "X +=",
+    "X +",
+    "X +1",
+    "X + = 1",
+    "X -= 1",
+    "X *= 1",
+    "X := 1",
+    "X == 1",
+    "X = = 1",
+    "X += = 1",
+    "X =+= 1",
+    "X ++= 1",
+    "X +=+ 1",
+    "X => 1",
+    // one line for name, operator and value
+    "X\n= 1",
+    "X =\n1",
+    "X =\n( 1 )",
+    "X +\n= 1",
+    "X\n\n= 1",
+    // values
+    "X = 0",
+    "X = -0",
+    "X = ( -0 +0 0. .0 -.0 -0E5 -0D-5 )",
+    "X = 270.000",
+    "X = 1.\nX = .5\nX = 1.5\nX = +1.\nX = -.5",
+    "X = 1E0\nX = 1e1\nX = 1D2\nX = 1d3\nX = 1E+4\nX = 1D-5\nX = 1.E6\nX = .1d+7",
+    "X = 007\nX = 00.50\nX = 1E007\nX = 1E-007\nX = 1E+000",
+    "X = +",
+    "X = -",
+    "X = .",
+    "X = -.",
+    "X = E5",
+    "X = .E5",
+    "X = -E5",
+    "X = 1E",
+    "X = 1E+",
+    "X = 1D-",
+    "X = 1.2.3",
+    "X = 1..",
+    "X = ..1",
+    "X = 1E2.5",
+    "X = 1E2E3",
+    "X = 1E--2",
+    "X = --1",
+    "X = +-1",
+    "X = 1-",
+    "X = 1+2",
+    "X = 1F5",
+    "X = 1 E5",
+    "X = 1E 5",
+    "X = - 1",
+    "X = 0x10",
+    "X = 1_000",
+    "X = NaN",
+    "X = inf",
+    "X = TRUE",
+    "X = '1'",
+    "X = @2000-JAN-1",
+    "X = 1/2",
+    "X = \"1\"",
+    // the class
+    "X = 9007199254740992",
+    "X = 9007199254740993",
+    "X = -9007199254740992",
+    "X = -9007199254740993",
+    "X = 9007199254740991",
+    "X = 9007199254740.992",
+    "X = 9007199254740.993",
+    "X = 9007199254740992.0",
+    "X = 90071992547409920E-1",
+    "X = 10000000000000000",
+    "X = 9999999999999999",
+    "X = 18446744073709551615",
+    "X = 18446744073709551616",
+    "X = 18446744073709551617",
+    "X = 340282366920938463463374607431768211457",
+    "X = 0000000000000000000000000000000000000000000000009007199254740992",
+    "X = 0000000000000000000000000000000000000000000000009007199254740993",
+    "X = 000000000000000000000000000000000000000000000000000000000000000001",
+    "X = 00000000000000000000000000000000000000000000000.5",
+    "X = 1E22",
+    "X = 1.0E23",
+    "X = 1E23",
+    "X = 10E22",
+    "X = 9007199254740992E22",
+    "X = 9007199254740993E22",
+    "X = 1E-22",
+    "X = 1E-23",
+    "X = 1.0E-21",
+    "X = 1.0E-22",
+    "X = 9007199254740992E-22",
+    "X = 0E22",
+    "X = 0E23",
+    "X = 0E-22",
+    "X = 0E-23",
+    "X = -0E23",
+    "X = 0.0000000000000000000000",
+    "X = 0.00000000000000000000000",
+    "X = 0.00000000000000000000000E1",
+    "X = .0000000000000000000001",
+    "X = .00000000000000000000001",
+    "X = .0000000000000000000000000000000000000001E18",
+    "X = .0000000000000000000000000000000000000001E17",
+    "X = 1.0000000000000000000000E22",
+    "X = 1.000000000000000E37",
+    "X = 1.000000000000000E38",
+    "X = 1E0000000000000000000000000000000000000000000000000000000022",
+    "X = 1E0000000000000000000000000000000000000000000000000000000023",
+    "X = 1E-000000000000000000000000000000000000000000000000000000022",
+    "X = 1E-000000000000000000000000000000000000000000000000000000023",
+    "X = 1E256",
+    "X = 1E-256",
+    "X = 1E65536",
+    "X = 1E4294967296",
+    "X = 1E4294967318",
+    "X = 1E-4294967296",
+    "X = 1E18446744073709551616",
+    "X = 1E18446744073709551638",
+    "X = 1E-18446744073709551616",
+    "X = 0E99999999999999999999999999999999999999999999",
+    "X = 1E340282366920938463463374607431768211456",
+    "X = 6.6443009930565219D-09",
+    "X = 6.644300993056522D-09",
+    "X = 6.6443009930565D-09",
+    "X = 6.64430099305652D-09",
+    "X = 0.1\nX = 0.2\nX = 0.3\nX = 123456.789E-3\nX = 4503599627370497.5",
+    "X = 450359962737049.75\nX = 1.7976931348623157\nX = 2.2250738585072014E-6",
+    // lists
+    "X = (1)",
+    "X = ( 1 )",
+    "X = (1,2)",
+    "X = (1 2)",
+    "X = (1\t2)",
+    "X = ( 1 , 2 )",
+    "X = (,1)",
+    "X = (1,)",
+    "X = (,,1,,,2,,)",
+    "X = (, , 1 , \t, 2 ,)",
+    "X=(1,-2,+3,.4,5.,6E0)",
+    "X += (1)\nX += ( 2, 3 )",
+    "X = (1\n)",
+    "X = (\n1)",
+    "X = (\n1\n)",
+    "X = (\n\n1\n\n2\n\n)\nY = 3",
+    "X = (,\n,1,\n,2,\n,)",
+    "X = ( 1,\n     2,\n     3 )",
+    "X = ( 1\n   , 2\n   , 3\n   )",
+    "X = (\n\t1\t2\n\t3\t4\n)",
+    "X = (\r\n1,\r\n2\r\n)\r\n",
+    "X = ( 1 \n 2 ) \t \nY = 3",
+    "X = (1 2 3 4 5 6 7 8 9\n10 11 12 13 14 15 16 17 18\n19 20)",
+    "X = ()",
+    "X = ( )",
+    "X = (,)",
+    "X = ( , \t )",
+    "X = (\n)",
+    "X = (\n,\n\n)",
+    "X = () 1",
+    "X = ((1))",
+    "X = (1 (2))",
+    "X = (1(2)",
+    "X = ( (",
+    "X = (1\n(",
+    "X = (1\n(2)\n)",
+    "X = ( 1 = )",
+    "X = ( Y = 2 )",
+    "X = ( 1\nY = 2\n)",
+    "X = ( 1\nY = 2",
+    "X = ( a )",
+    "X = ( 1 2a 3 )",
+    "X = ( 1 '2' 3 )",
+    "X = ( 1. 2. . )",
+    "X = ( 1; 2 )",
+    // after a statement
+    "X = 1 ",
+    "X = 1 \t \t",
+    "X = 1,",
+    "X = 1 ,",
+    "X = 1, 2",
+    "X = 1 2",
+    "X = 1)",
+    "X = 1 )",
+    "X = 1(",
+    "X = 1 (2)",
+    "X = ,1",
+    "X = , 1",
+    "X = )",
+    "X = )1",
+    "X = 1 Y = 2",
+    "X = 1 junk",
+    "X = 1;",
+    "X = 1 # note",
+    "X = (1),",
+    "X = (1) ,",
+    "X = (1))",
+    "X = (1) )",
+    "X = (1) (2)",
+    "X = (1)2",
+    "X = (1) junk",
+    "X = (1) Y = 2",
+    "X = (1\n) Y = 2",
+    "X = (1\n),",
+    // delimiters and the end inside a list
+    "X = (",
+    "X = (\n",
+    "X = ( 1",
+    "X = ( 1\n",
+    "X = ( 1\n\n",
+    "X = ( 1\n\n\n\n",
+    "X = ( 1\n ",
+    "X = ( 1\n \t\n,",
+    "X = ( 1\r\n\r\n",
+    "X = ( 1\n\\begintext\n)",
+    "X = ( 1\n\\begindata\n)",
+    "X = (\n  \\begintext  \n",
+    "X = ( 1\n\\begintext\n1E99",
+    "X = ( 1\n\\begintextx\n)",
+    "Y = 1\nX = ( 1\n2\n3\n4\n\\begindata\n5 )",
+    // the order of faults
+    "X = 1E99 junk",
+    "X = 1E99,",
+    "X = 1E99)",
+    "X = 1E99(",
+    "X = junk 1E99",
+    "X = 1 1E99",
+    "X Y = 1E99",
+    "X = ( 1E99",
+    "X = ( 1E99 junk )",
+    "X = ( junk 1E99 )",
+    "X = ( 1E99 ( 2 ) )",
+    "X = ( ( 1E99 ) )",
+    "X = ( 1E99(2) )",
+    "X = ( 1 2 1E99 ) junk",
+    "X = ( 1 ) 1E99",
+    "X = 1E99E",
+    "X = 1E99.",
+    "X = 99999999999999999999x",
+    "X = ( 1E99\n\\begintext\n)",
+    "X = 1E99\nX = ?",
+    "X = ?\nX = 1E99",
+    "X = 1E99 \u{1}",
+    "X = ? \u{7f}",
+    "\u{1} X = 1E99",
+    "X = 1\u{1}",
+    "X = ( 1\n\u{1}\n)",
+    "X = ( 1\n\\begintext\u{1}\n)",
+    "X = ( 1\n2\u{1}",
+    "X = 1E99\n\u{1}",
+    "\u{1}\nX = 1E99",
+];
+
+/// All texts in their order.
+pub fn samples() -> Vec<Vec<u8>> {
+    let mut texts: Vec<Vec<u8>> = Vec::new();
+    texts.extend(WHOLE.iter().map(|text| text.as_bytes().to_vec()));
+    texts.extend(DATA.iter().map(|lines| data(lines)));
+    add_line_lengths(&mut texts);
+    add_name_lengths(&mut texts);
+    add_bytes(&mut texts);
+    add_long_texts(&mut texts);
+    texts.extend(KERNELS.iter().map(|kernel| kernel.to_vec()));
+    texts.push(with_carriage_returns(KERNELS[0]));
+    let mut random = Random(5);
+    texts.extend((0..MIXTURES).map(|_| mixture(&mut random)));
+    texts
+}
+
+/// A text of one data section.
+fn data(lines: &str) -> Vec<u8> {
+    format!("\\begindata\n{lines}").into_bytes()
+}
+
+/// Lines of 79 and 80 bytes in both sections, in lists, on delimiter lines, before every end.
+fn add_line_lengths(texts: &mut Vec<Vec<u8>>) {
+    for length in [78, 79, 80, 81, 200] {
+        let words = "x".repeat(length);
+        let blanks = " ".repeat(length);
+        let statement = format!("X = 1{}", " ".repeat(length - 5));
+        let digits = format!("X = {}1", "0".repeat(length - 5));
+        let delimiter = format!("{}\\begindata", " ".repeat(length - 10));
+        let trailed = format!("\\begindata{}", "\t".repeat(length - 10));
+        for end in ["", "\n", "\r\n", "\r", "\r\r\n"] {
+            texts.push(format!("{words}{end}").into_bytes());
+            texts.push(data(&format!("{statement}{end}")));
+        }
+        texts.push(data(&blanks));
+        texts.push(data(&digits));
+        texts.push(data(&format!("X = ( 1\n{blanks}\n2 )")));
+        texts.push(data(&format!("X = ( 1\n{delimiter}\n2 )")));
+        texts.push(data(&format!("\\begintext\n{words}\n\\begindata\nX = 1")));
+        texts.push(format!("{delimiter}\nX = 1\n").into_bytes());
+        texts.push(format!("{trailed}\nX = 1\n").into_bytes());
+        texts.push(data(&format!("\u{1}{words}")));
+        texts.push(data(&format!("X = 1E99 {words}")));
+        texts.push(data(&format!("X = ?\n{words}")));
+    }
+}
+
+/// Names of 32 and 33 bytes.
+fn add_name_lengths(texts: &mut Vec<Vec<u8>>) {
+    for length in [1, 2, 31, 32, 33, 34, 64, 75] {
+        let name = "BODY499_".repeat(10)[..length].to_string();
+        texts.push(data(&format!("{name}=1")));
+        texts.push(data(&format!("{name} ( 1 )")));
+    }
+    let name = "N".repeat(33);
+    texts.push(data(&format!("{name} = 1E99")));
+    texts.push(data(&format!("{name} = 1 \u{1}")));
+}
+
+/// Every kind of byte, in a text section, in a statement, in a list and alone.
+fn add_bytes(texts: &mut Vec<Vec<u8>>) {
+    for byte in [
+        0, 1, 8, 9, 11, 12, 13, 27, 31, 32, 126, 127, 128, 160, 194, 255,
+    ] {
+        texts.push(with_byte(b"note ", byte, b" note\n\\begindata\nX = 1\n"));
+        texts.push(with_byte(b"\\begindata\nX = 1", byte, b"\n"));
+        texts.push(with_byte(b"\\begindata\nX = ( 1", byte, b"2 )\n"));
+        texts.push(with_byte(b"\\begindata\n", byte, b"\nX = 1\n"));
+        texts.push(with_byte(
+            b"\\begindata\nX = 1\n\\begintext",
+            byte,
+            b"\n?\n",
+        ));
+    }
+}
+
+fn with_byte(before: &[u8], byte: u8, after: &[u8]) -> Vec<u8> {
+    [before, &[byte], after].concat()
+}
+
+/// Texts that are long in one way each.
+fn add_long_texts(texts: &mut Vec<Vec<u8>>) {
+    texts.push("\n".repeat(2000).into_bytes());
+    texts.push(format!("{}\\begindata\n?", "\r\n".repeat(1000)).into_bytes());
+    texts.push(data(&"X = 1\n".repeat(513)));
+    texts.push(data(&format!("X = (\n{})", "1 2 3 4 5 6\n".repeat(520))));
+    texts.push(data(&format!("X = ( 1{}", "\n".repeat(1000))));
+    texts.push(data(&format!("X = ( 1{}\\begintext", "\n".repeat(1000))));
+    texts.push(data(&format!(
+        "{}?",
+        "X = 1\n\\begintext\n?\n\\begindata\n".repeat(100)
+    )));
+    texts.push(data(&format!("X = (\n{},1E99 )", ",\n".repeat(500))));
+}
+
+/// A text with CR LF at the end of every line.
+fn with_carriage_returns(text: &[u8]) -> Vec<u8> {
+    let lines: Vec<&[u8]> = text.split(|b| *b == b'\n').collect();
+    lines.join(&b"\r\n"[..])
+}
+
+/// A data section of mostly right statements, with at most two bytes changed.
+fn mixture(random: &mut Random) -> Vec<u8> {
+    let mut text = random
+        .one(&["\\begindata\n", "\\begindata\r\n", "note\n\\begindata\n"])
+        .to_string();
+    for _ in 0..1 + random.below(5) {
+        add_statement(&mut text, random);
+    }
+    let mut text = text.into_bytes();
+    for _ in 0..random.below(3) {
+        let place = random.below(text.len());
+        match random.below(3) {
+            0 => text[place] = random.one(b" \t,()=+-.0E\r\n\\X\x01\xff"),
+            1 => text.insert(place, random.one(b" \t,()=+-.9d\r\n_\x00\x80")),
+            _ => {
+                text.remove(place);
+            }
+        }
+    }
+    text
+}
+
+/// One statement in some of its many spellings, or a line that is none.
+fn add_statement(text: &mut String, random: &mut Random) {
+    let end = random.one(&["\n", "\n", "\n", "\r\n", " \n"]);
+    if random.below(8) == 0 {
+        text.push_str(random.one(&[
+            "",
+            "\\begintext",
+            "\\begindata",
+            " \t",
+            "\\begintext\n\\begindata",
+        ]));
+        text.push_str(end);
+        return;
+    }
+    text.push_str(random.one(&["", "", " ", "\t"]));
+    text.push_str(random.one(&["X", "Y_1", "BODY399_PM", "body399_pm", "Z9"]));
+    text.push_str(random.one(&[" = ", "=", " += ", "+=", "\t="]));
+    if random.below(3) == 0 {
+        text.push_str(value(random));
+    } else {
+        text.push_str(random.one(&["(", "( ", "(\n", "(,"]));
+        for _ in 0..1 + random.below(6) {
+            text.push_str(value(random));
+            text.push_str(random.one(&[" ", ", ", ",", "\n", " \n\t", " , "]));
+        }
+        text.push(')');
+    }
+    text.push_str(end);
+}
+
+/// A value; one in twenty is none, or outside the class.
+fn value(random: &mut Random) -> &'static str {
+    let good = [
+        "0",
+        "-0",
+        "1",
+        "+2.5",
+        "-.125",
+        "3397.",
+        "1E5",
+        "1d-7",
+        "270.000",
+        "0.1",
+        "6378.14",
+        "9007199254740992",
+        "1E22",
+        "1E-22",
+        "-1.5D+3",
+        "350.89198226",
+    ];
+    let bad = ["1E23", "9007199254740993", "1E", "x", ".", "1.2.3"];
+    if random.below(20) == 0 {
+        random.one(&bad)
+    } else {
+        random.one(&good)
+    }
+}

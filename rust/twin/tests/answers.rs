@@ -1,0 +1,188 @@
+//! Orientation and radii from a pool: what must be there, how many values, and in which order
+//! that is asked.
+
+use twin::answers::{orientation, radii};
+use twin::builtin::builtin_orientation;
+use twin::layout::WORDS;
+use twin::pool::{load, make_empty};
+use twin::refusal::Refusal;
+use twin::rotation::{evaluate, Elements, Nutation, Orientation};
+
+fn pool_of(lines: &str) -> Vec<u64> {
+    let mut pool = vec![u64::MAX; WORDS];
+    make_empty(&mut pool).unwrap();
+    load(&mut pool, 1, format!("\\begindata\n{lines}").as_bytes()).unwrap();
+    pool
+}
+
+fn asked(lines: &str, code: u32) -> Result<Orientation, Refusal> {
+    orientation(&pool_of(lines), code, 1e9)
+}
+
+const BODY: &str = "BODY399_POLE_RA = 1\nBODY399_POLE_DEC = 2\nBODY399_PM = 3\n";
+
+#[test]
+fn codes() {
+    for code in [0, 11, 12, 99, 1000, 1001, u32::MAX] {
+        let lines = format!("BODY{code}_POLE_RA = 1\nBODY{code}_POLE_DEC = 1\nBODY{code}_PM = 1\nBODY{code}_RADII = ( 1 2 3 )");
+        assert_eq!(asked(&lines, code), Err(Refusal::UnknownBody), "{code}");
+        assert_eq!(radii(&pool_of(&lines), code), Err(Refusal::UnknownBody));
+    }
+    for code in [1, 9, 10, 100, 199, 399, 998, 999] {
+        let lines = format!("BODY{code}_POLE_RA = 1\nBODY{code}_POLE_DEC = 1\nBODY{code}_PM = 1\nBODY{code}_RADII = ( 1 2 3 )");
+        assert!(asked(&lines, code).is_ok(), "{code}");
+        assert_eq!(radii(&pool_of(&lines), code), Ok([1.0, 2.0, 3.0]));
+    }
+}
+
+#[test]
+fn pole_and_meridian() {
+    assert_eq!(asked("", 399), Err(Refusal::UnknownBody));
+    assert_eq!(
+        asked("BODY399_RADII = ( 1 2 3 )\nBODY399_NUT_PREC_RA = 1", 399),
+        Err(Refusal::UnknownBody)
+    );
+    let all: Vec<&str> = BODY.lines().collect();
+    for left_out in 0..3 {
+        let mut some = all.clone();
+        some.remove(left_out);
+        assert_eq!(asked(&some.join("\n"), 399), Err(Refusal::Incomplete));
+        assert_eq!(asked(all[left_out], 399), Err(Refusal::Incomplete));
+    }
+    for name in ["POLE_RA", "POLE_DEC", "PM"] {
+        let lines = format!("{BODY}BODY399_{name} = ( 1 2 3 )");
+        assert!(asked(&lines, 399).is_ok());
+        let lines = format!("{BODY}BODY399_{name} = ( 1 2 3 4 )");
+        assert_eq!(asked(&lines, 399), Err(Refusal::WrongCount));
+    }
+}
+
+#[test]
+fn missing_values_are_zero() {
+    let elements = Elements {
+        ra: [1.0, 0.0, 0.0],
+        dec: [2.0, 0.0, 0.0],
+        pm: [3.0, 0.0, 0.0],
+    };
+    assert_eq!(
+        asked(BODY, 399),
+        Ok(evaluate(&elements, &Nutation::NONE, 1e9))
+    );
+    let spelled = "BODY399_POLE_RA = ( 1 0 0 )\nBODY399_POLE_DEC = ( 2 0 )\nBODY399_PM = ( 3 0 0 )";
+    assert_eq!(asked(BODY, 399), asked(spelled, 399));
+}
+
+#[test]
+fn angles_of_the_system() {
+    for (code, system) in [
+        (399, 3),
+        (301, 3),
+        (100, 1),
+        (999, 9),
+        (3, 3),
+        (10, 10),
+        (1, 1),
+    ] {
+        let body = BODY.replace("399", &code.to_string());
+        for name in ["NUT_PREC_RA", "NUT_PREC_DEC", "NUT_PREC_PM"] {
+            let with_term = format!("{body}BODY{code}_{name} = 1\n");
+            assert_eq!(asked(&with_term, code), Err(Refusal::Incomplete));
+            let complete = format!("{with_term}BODY{system}_NUT_PREC_ANGLES = ( 30 1 )\n");
+            assert!(asked(&complete, code).is_ok());
+            assert_ne!(asked(&complete, code), asked(&body, code));
+        }
+    }
+}
+
+#[test]
+fn counts_of_angles() {
+    let list = |count: usize| "1\n".repeat(count);
+    let asked_with = |angles: usize, terms: usize| {
+        let lines = format!(
+            "{BODY}BODY399_NUT_PREC_DEC = (\n{})\nBODY399_NUT_PREC_RA = 1\nBODY3_NUT_PREC_ANGLES = (\n{})",
+            list(terms),
+            list(angles)
+        );
+        asked(&lines, 399).err()
+    };
+    assert_eq!(asked_with(2, 1), None);
+    assert_eq!(asked_with(1, 1), Some(Refusal::WrongCount));
+    assert_eq!(asked_with(3, 1), Some(Refusal::WrongCount));
+    assert_eq!(asked_with(4, 1), None);
+    assert_eq!(asked_with(4, 2), None);
+    assert_eq!(asked_with(4, 3), Some(Refusal::WrongCount));
+    assert_eq!(asked_with(64, 32), None);
+    assert_eq!(asked_with(62, 32), Some(Refusal::WrongCount));
+    assert_eq!(asked_with(65, 1), Some(Refusal::WrongCount));
+    assert_eq!(asked_with(66, 1), Some(Refusal::WrongCount));
+    assert_eq!(asked_with(66, 33), Some(Refusal::WrongCount));
+    assert_eq!(asked_with(64, 33), Some(Refusal::WrongCount));
+}
+
+#[test]
+fn angles_are_not_looked_at_without_terms() {
+    let odd = format!("{BODY}BODY3_NUT_PREC_ANGLES = ( 1 2 3 )");
+    assert_eq!(asked(&odd, 399), asked(BODY, 399));
+}
+
+#[test]
+fn incomplete_is_asked_before_any_count() {
+    let lines = format!("{BODY}BODY399_PM = ( 1 2 3 4 )\nBODY399_NUT_PREC_RA = 1");
+    assert_eq!(asked(&lines, 399), Err(Refusal::Incomplete));
+    let lines = "BODY399_POLE_RA = ( 1 2 3 4 )\nBODY399_PM = 1";
+    assert_eq!(asked(lines, 399), Err(Refusal::Incomplete));
+}
+
+#[test]
+fn refusals_come_in_order() {
+    let mut damaged = pool_of(BODY);
+    damaged[0] = 99;
+    assert_eq!(
+        orientation(&damaged, 399, f64::NAN),
+        Err(Refusal::DamagedPool)
+    );
+    assert_eq!(orientation(&damaged, 11, 0.0), Err(Refusal::DamagedPool));
+    assert_eq!(radii(&damaged, 11), Err(Refusal::DamagedPool));
+    assert_eq!(builtin_orientation(11, 0.0), Err(Refusal::UnknownBody));
+    let pool = pool_of(BODY);
+    assert_eq!(orientation(&pool, 11, f64::NAN), Err(Refusal::Epoch));
+    assert_eq!(
+        orientation(&pool, 399, 157788000000.00003),
+        Err(Refusal::Epoch)
+    );
+    assert!(orientation(&pool, 399, 157788000000.0).is_ok());
+}
+
+#[test]
+fn terms_over_several_statements() {
+    let lines = format!(
+        "{BODY}BODY3_NUT_PREC_ANGLES = ( 30 1\n60 )\nBODY399_NUT_PREC_RA += 1\nBODY3_NUT_PREC_ANGLES += 2\nBODY399_NUT_PREC_RA += -2\nBODY399_NUT_PREC_PM = 0.5"
+    );
+    let elements = Elements {
+        ra: [1.0, 0.0, 0.0],
+        dec: [2.0, 0.0, 0.0],
+        pm: [3.0, 0.0, 0.0],
+    };
+    let nutation = Nutation {
+        angles: &[30.0, 1.0, 60.0, 2.0],
+        ra: &[1.0, -2.0],
+        dec: &[],
+        pm: &[0.5],
+    };
+    assert_eq!(asked(&lines, 399), Ok(evaluate(&elements, &nutation, 1e9)));
+}
+
+#[test]
+fn radii_are_three() {
+    for (list, expected) in [
+        ("( 1 2 3 )", Ok([1.0, 2.0, 3.0])),
+        ("( 0 -0 -1 )", Ok([0.0, -0.0, -1.0])),
+        ("( 1 2 )", Err(Refusal::WrongCount)),
+        ("1", Err(Refusal::WrongCount)),
+        ("( 1 2 3 4 )", Err(Refusal::WrongCount)),
+    ] {
+        let pool = pool_of(&format!("BODY10_RADII = {list}"));
+        assert_eq!(radii(&pool, 10), expected);
+    }
+    assert_eq!(radii(&pool_of(BODY), 399), Err(Refusal::UnknownBody));
+}

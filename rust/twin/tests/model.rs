@@ -1,0 +1,358 @@
+//! Random histories, compared with a model that keeps texts as lists and works everything out
+//! anew at each question.
+
+mod common;
+
+use common::Random;
+use twin::answers::{orientation, radii};
+use twin::layout::WORDS;
+use twin::pool::{clear, fetch, load, make_empty, remove, totals, Totals};
+use twin::refusal::{Refusal, Refused};
+use twin::rotation::{check_epoch, evaluate, Elements, Nutation, Orientation};
+use twin::text::{read, Operator, Statement};
+
+const HISTORIES: u64 = 4_000;
+const CALLS: u64 = 30;
+
+const LABELS: [u32; 20] = [
+    0,
+    1,
+    2,
+    3,
+    4,
+    5,
+    6,
+    7,
+    8,
+    9,
+    10,
+    11,
+    12,
+    13,
+    14,
+    15,
+    16,
+    17,
+    18,
+    u32::MAX,
+];
+const BODIES: [u32; 5] = [3, 10, 301, 399, 11];
+const WORDS_OF_A_BODY: [&str; 8] = [
+    "POLE_RA",
+    "POLE_DEC",
+    "PM",
+    "NUT_PREC_RA",
+    "NUT_PREC_DEC",
+    "NUT_PREC_PM",
+    "NUT_PREC_ANGLES",
+    "RADII",
+];
+
+#[test]
+fn a_pool_answers_as_its_texts_do() {
+    let mut random = Random(7);
+    let mut met = [0u32; 16];
+    for _ in 0..HISTORIES {
+        let mut memory = vec![random.below(u64::MAX); WORDS];
+        make_empty(&mut memory).unwrap();
+        let mut model = Model { texts: Vec::new() };
+        for _ in 0..CALLS {
+            let number = step(&mut memory, &mut model, &mut random);
+            met[number as usize] += 1;
+        }
+    }
+    println!("answers by number: {met:?}");
+    for number in [0, 1, 2, 5, 6, 7, 8, 9, 10, 11, 12, 13, 14] {
+        assert!(met[number] > 0, "{number} is never met");
+    }
+}
+
+/// One call on both sides; the number it is answered with.
+fn step(memory: &mut [u64], model: &mut Model, random: &mut Random) -> u32 {
+    let before = memory.to_vec();
+    match random.below(16) {
+        0..=5 => {
+            let label = random.one(&LABELS);
+            let text = random_text(random);
+            let answer = load(memory, label, &text);
+            assert_eq!(answer, model.load(label, &text));
+            keeps_if_refused(memory, &before, &answer)
+        }
+        6..=7 => {
+            let label = random.one(&LABELS);
+            let answer = remove(memory, label);
+            assert_eq!(answer, model.remove(label));
+            keeps_if_refused(memory, &before, &answer)
+        }
+        8 if random.below(8) == 0 => {
+            let answer = clear(memory);
+            model.texts.clear();
+            keeps_if_refused(memory, &before, &answer)
+        }
+        8..=9 => {
+            let answer = totals(memory);
+            assert_eq!(answer, Ok(model.totals()));
+            number(&answer)
+        }
+        10..=11 => {
+            let name = random_name(random);
+            let room = random.one(&[0, 1, 2, 3, 4, 6, 3072]);
+            let mut buffer = vec![0.0; room];
+            let answer = fetch(memory, name.as_bytes(), &mut buffer);
+            match model.fetch(name.as_bytes(), room) {
+                Ok(values) => {
+                    assert_eq!(answer, Ok(values.len()));
+                    assert_eq!(bits(&buffer[..values.len()]), bits(&values));
+                }
+                Err(refusal) => assert_eq!(answer, Err(refusal.into())),
+            }
+            number(&answer)
+        }
+        12..=14 => {
+            let code = random.one(&BODIES);
+            let epoch = random.one(&[0.0, 1e9, -3.3e10, f64::NAN]);
+            let answer = orientation(memory, code, epoch);
+            let expected = model.orientation(code, epoch);
+            assert_eq!(
+                answer.map(|o| bits(&o.doubles())),
+                expected.map(|o| bits(&o.doubles()))
+            );
+            answer.map_or_else(Refusal::number, |_| 0)
+        }
+        _ => {
+            let code = random.one(&BODIES);
+            let answer = radii(memory, code);
+            assert_eq!(answer, model.radii(code));
+            answer.map_or_else(Refusal::number, |_| 0)
+        }
+    }
+}
+
+fn keeps_if_refused(memory: &[u64], before: &[u64], answer: &Result<(), Refused>) -> u32 {
+    if answer.is_err() {
+        assert_eq!(memory, before);
+    }
+    number(answer)
+}
+
+fn number<T>(answer: &Result<T, Refused>) -> u32 {
+    match answer {
+        Ok(_) => 0,
+        Err(refused) => refused.refusal.number(),
+    }
+}
+
+fn bits(values: &[f64]) -> Vec<u64> {
+    values.iter().map(|value| value.to_bits()).collect()
+}
+
+/// The held texts in load order.
+struct Model {
+    texts: Vec<(u32, Vec<Statement>)>,
+}
+
+impl Model {
+    fn load(&mut self, label: u32, text: &[u8]) -> Result<(), Refused> {
+        if self.texts.iter().any(|(held, _)| *held == label) {
+            return Err(Refusal::LabelHeld.into());
+        }
+        if text.len() > 65_536 {
+            return Err(Refusal::TextTooLong.into());
+        }
+        self.texts.push((label, read(text)?));
+        let totals = self.totals();
+        if totals.texts > 16 || totals.statements > 512 || totals.values > 3072 {
+            self.texts.pop();
+            return Err(Refusal::NoRoom.into());
+        }
+        Ok(())
+    }
+
+    fn remove(&mut self, label: u32) -> Result<(), Refused> {
+        let held = self.texts.len();
+        self.texts.retain(|(other, _)| *other != label);
+        if self.texts.len() == held {
+            return Err(Refusal::NotHeld.into());
+        }
+        Ok(())
+    }
+
+    fn totals(&self) -> Totals {
+        Totals {
+            texts: self.texts.len(),
+            statements: self.statements().count(),
+            values: self.statements().map(|s| s.values.len()).sum(),
+        }
+    }
+
+    fn statements(&self) -> impl Iterator<Item = &Statement> {
+        self.texts.iter().flat_map(|(_, statements)| statements)
+    }
+
+    fn variable(&self, name: &[u8]) -> Option<Vec<f64>> {
+        let of_name: Vec<&Statement> = self.statements().filter(|s| s.name == name).collect();
+        let last_direct = of_name
+            .iter()
+            .rposition(|s| s.operator == Operator::Direct)
+            .unwrap_or(0);
+        let values = of_name.get(last_direct..)?;
+        if values.is_empty() {
+            return None;
+        }
+        Some(values.iter().flat_map(|s| s.values.clone()).collect())
+    }
+
+    fn fetch(&self, name: &[u8], room: usize) -> Result<Vec<f64>, Refusal> {
+        let values = self.variable(name).ok_or(Refusal::NoVariable)?;
+        if values.len() > room {
+            return Err(Refusal::ShortBuffer);
+        }
+        Ok(values)
+    }
+
+    fn body(&self, code: u32, word: &str) -> Option<Vec<f64>> {
+        self.variable(format!("BODY{code}_{word}").as_bytes())
+    }
+
+    fn orientation(&self, code: u32, epoch: f64) -> Result<Orientation, Refusal> {
+        check_epoch(epoch)?;
+        if code == 0 || (code > 10 && code < 100) || code > 999 {
+            return Err(Refusal::UnknownBody);
+        }
+        let system = if code <= 10 { code } else { code / 100 };
+        let elements = ["POLE_RA", "POLE_DEC", "PM"].map(|word| self.body(code, word));
+        if elements.iter().all(Option::is_none) {
+            return Err(Refusal::UnknownBody);
+        }
+        let terms =
+            ["NUT_PREC_RA", "NUT_PREC_DEC", "NUT_PREC_PM"].map(|word| self.body(code, word));
+        let angles = self.body(system, "NUT_PREC_ANGLES");
+        let wants_angles = terms.iter().any(Option::is_some);
+        if elements.iter().any(Option::is_none) || (wants_angles && angles.is_none()) {
+            return Err(Refusal::Incomplete);
+        }
+        let [ra, dec, pm] = elements.map(|values| values.unwrap_or_default());
+        let terms = terms.map(|values| values.unwrap_or_default());
+        let angles = angles.unwrap_or_default();
+        let longest = terms.iter().map(Vec::len).max().unwrap_or(0);
+        let wrong_angles = angles.len() % 2 == 1 || angles.len() > 64 || angles.len() < 2 * longest;
+        if [&ra, &dec, &pm].iter().any(|values| values.len() > 3) || (wants_angles && wrong_angles)
+        {
+            return Err(Refusal::WrongCount);
+        }
+        let elements = Elements {
+            ra: padded(&ra),
+            dec: padded(&dec),
+            pm: padded(&pm),
+        };
+        let nutation = Nutation {
+            angles: &angles,
+            ra: &terms[0],
+            dec: &terms[1],
+            pm: &terms[2],
+        };
+        Ok(evaluate(&elements, &nutation, epoch))
+    }
+
+    fn radii(&self, code: u32) -> Result<[f64; 3], Refusal> {
+        if !(1..=10).contains(&code) && !(100..=999).contains(&code) {
+            return Err(Refusal::UnknownBody);
+        }
+        let radii = self.body(code, "RADII").ok_or(Refusal::UnknownBody)?;
+        radii.try_into().map_err(|_| Refusal::WrongCount)
+    }
+}
+
+fn padded(values: &[f64]) -> [f64; 3] {
+    let mut all = [0.0; 3];
+    all[..values.len()].copy_from_slice(values);
+    all
+}
+
+fn random_name(random: &mut Random) -> String {
+    format!(
+        "BODY{}_{}",
+        random.one(&BODIES),
+        random.one(&WORDS_OF_A_BODY)
+    )
+}
+
+/// A text: a whole body, some statements, many of them, or a faulty one.
+fn random_text(random: &mut Random) -> Vec<u8> {
+    let mut text = String::from("\\begindata\n");
+    match random.below(12) {
+        0..=4 => {
+            let body = random.one(&BODIES);
+            for word in ["POLE_RA", "POLE_DEC", "PM", "RADII"] {
+                let count = if word == "RADII" {
+                    3
+                } else {
+                    1 + random.below(3)
+                };
+                add(
+                    &mut text,
+                    random,
+                    &format!("BODY{body}_{word}"),
+                    " = ",
+                    count,
+                );
+            }
+            if random.below(2) == 0 {
+                let name = random.one(&["NUT_PREC_RA", "NUT_PREC_DEC", "NUT_PREC_PM"]);
+                let count = 1 + random.below(4);
+                add(
+                    &mut text,
+                    random,
+                    &format!("BODY{body}_{name}"),
+                    " = ",
+                    count,
+                );
+                let system = random.one(&[3, 10]);
+                let count = random.one(&[8, 8, 8, 2, 7, 64, 66]);
+                add(
+                    &mut text,
+                    random,
+                    &format!("BODY{system}_NUT_PREC_ANGLES"),
+                    " = ",
+                    count,
+                );
+            }
+        }
+        5..=8 => {
+            for _ in 0..random.below(5) {
+                let name = random_name(random);
+                let operator = random.one(&[" = ", " += "]);
+                let count = 1 + random.below(4);
+                add(&mut text, random, &name, operator, count);
+            }
+        }
+        9 => {
+            for _ in 0..random.below(300) {
+                add(&mut text, random, "MANY", " += ", 1);
+            }
+            let count = 1 + random.below(1200);
+            add(&mut text, random, "MANY", " += ", count);
+        }
+        10 => text = "\n".repeat(65_530 + random.below(12) as usize),
+        _ => text.push_str(random.one(&["X = ?", "X = 1\nY = 1E23", "X = ( 1"])),
+    }
+    text.into_bytes()
+}
+
+fn add(text: &mut String, random: &mut Random, name: &str, operator: &str, count: u64) {
+    text.push_str(name);
+    text.push_str(operator);
+    text.push('(');
+    for _ in 0..count {
+        text.push_str(random.one(&[
+            "\n0",
+            "\n-0",
+            "\n1.5",
+            "\n-270.25",
+            "\n3.5E2",
+            "\n1D-9",
+            "\n13",
+        ]));
+    }
+    text.push_str(")\n");
+}

@@ -1,0 +1,308 @@
+//! Texts: every sentence of "Text rules", and the readings decided about them.
+
+use twin::refusal::Refusal;
+use twin::text::{read, Operator};
+
+/// Statements as `name op values`, or number and line of the refusal.
+fn told(text: impl AsRef<[u8]>) -> Result<Vec<String>, (u32, u64)> {
+    match read(text.as_ref()) {
+        Ok(statements) => Ok(statements
+            .iter()
+            .map(|s| {
+                let operator = match s.operator {
+                    Operator::Direct => "=",
+                    Operator::Append => "+=",
+                };
+                let values: Vec<String> = s.values.iter().map(f64::to_string).collect();
+                format!(
+                    "{} {operator} {}",
+                    String::from_utf8_lossy(&s.name),
+                    values.join(" ")
+                )
+            })
+            .collect()),
+        Err(refused) => Err((refused.refusal.number(), refused.line)),
+    }
+}
+
+fn data(lines: &str) -> String {
+    format!("\\begindata\n{lines}")
+}
+
+#[track_caller]
+fn admitted(text: impl AsRef<[u8]>, statements: &[&str]) {
+    let expected: Vec<String> = statements.iter().map(|s| s.to_string()).collect();
+    assert_eq!(told(text), Ok(expected));
+}
+
+#[track_caller]
+fn refused(text: impl AsRef<[u8]>, refusal: Refusal, line: u64) {
+    assert_eq!(told(text), Err((refusal.number(), line)));
+}
+
+use Refusal::{BadByte, LineTooLong, Number, Syntax};
+
+#[test]
+fn marked_texts() {
+    admitted("", &[]);
+    admitted("X = 1", &[]);
+    admitted(data("X = 9007199254740992"), &["X = 9007199254740992"]);
+    refused(data("X = 9007199254740993"), Number, 2);
+    admitted(
+        data("X = 1E22\nX = 1.0E23"),
+        &[
+            "X = 10000000000000000000000",
+            "X = 100000000000000000000000",
+        ],
+    );
+    refused(data("X = 1E23"), Number, 2);
+    refused(data("X = ( )"), Syntax, 2);
+}
+
+#[test]
+fn the_listed_example() {
+    let text = "note\n\\begindata\nBODY499_RADII = ( 3397, 3397\n   3375 )\nBODY499_PM = 0.5\nBODY499_PM += -2D0\n";
+    admitted(
+        text,
+        &[
+            "BODY499_RADII = 3397 3397 3375",
+            "BODY499_PM = 0.5",
+            "BODY499_PM += -2",
+        ],
+    );
+}
+
+#[test]
+fn line_ends() {
+    admitted("\n\n\n", &[]);
+    admitted("\\begindata\r\nX = 1\r\nY = 2\r\n", &["X = 1", "Y = 2"]);
+    admitted("\\begindata\nX = 1", &["X = 1"]);
+    admitted("\\begindata\nX = 1\n", &["X = 1"]);
+    refused("\\begindata\nX = 1\r\r\n", BadByte, 2);
+    refused("\\begindata\nX = 1\r", BadByte, 2);
+    refused("\\begindata\nX = 1 \rY = 2\n", BadByte, 2);
+    refused("\\begindata\n\r", BadByte, 2);
+    admitted("\\begindata\n\r\n", &[]);
+    admitted("\\begindata\r\r\nX = 1\n", &[]);
+    admitted("\\begindata\r", &[]);
+    refused("\\begindata\n\\begintext\r", BadByte, 2);
+    admitted("\r", &[]);
+}
+
+#[test]
+fn no_line_is_over_79_bytes() {
+    let line = "x".repeat(79);
+    admitted(&line, &[]);
+    admitted(format!("{line}\r\n{line}\n{line}"), &[]);
+    refused(format!("{line}x"), LineTooLong, 1);
+    refused(format!("{line}x\n"), LineTooLong, 1);
+    refused(format!("\n{line}\r"), LineTooLong, 2);
+    refused(format!("{line}\r\r\n"), LineTooLong, 1);
+    let blanks = " ".repeat(69);
+    admitted(format!("{blanks}\\begindata\nX = 1"), &["X = 1"]);
+    refused(format!("{blanks} \\begindata\nX = 1"), LineTooLong, 1);
+    let statement = format!("X = 1{}", " ".repeat(74));
+    admitted(data(&statement), &["X = 1"]);
+    refused(data(&format!("{statement} ")), LineTooLong, 2);
+    admitted(data(&format!("{statement}\r\n")), &["X = 1"]);
+    refused(data(&" ".repeat(80)), LineTooLong, 2);
+    refused(
+        data(&format!("X = ( 1\n{}\n)", " ".repeat(80))),
+        LineTooLong,
+        3,
+    );
+}
+
+#[test]
+fn sections_and_their_delimiters() {
+    admitted(
+        "X = 1\n\\begindata\nX = 2\n\\begintext\nX = 3\n\\begindata\nX = 4",
+        &["X = 2", "X = 4"],
+    );
+    admitted(" \t\\begindata \t\nX = 1", &["X = 1"]);
+    admitted("\\begindata\n\\begindata\nX = 1\n\\begindata\n", &["X = 1"]);
+    admitted("\\begintext\nX = 1", &[]);
+    admitted("\\begindata X\nX = 1", &[]);
+    admitted("x\\begindata\nX = 1", &[]);
+    admitted("\\BEGINDATA\nX = 1", &[]);
+    admitted("\\begindata\\begindata\nX = 1", &[]);
+    admitted("\\begin data\nX = 1", &[]);
+    refused("\\begindata\n\\begintext x\n", Syntax, 2);
+    refused("\\begindata\n\\beginTEXT\n", Syntax, 2);
+    refused("\\begindata\nX = 1 \\begintext\n", Syntax, 2);
+    refused("\\begindata\nX = \\begintext\n", Syntax, 2);
+}
+
+#[test]
+fn text_section_bytes_are_unread() {
+    admitted(b"\0\x7f\x80\xff\x01\n\\begintext\n\xff", &[]);
+    admitted("= ( ) +=\n\\begindata\n", &[]);
+}
+
+#[test]
+fn data_lines_hold_printed_bytes_and_tabs() {
+    for byte in 0..=255u8 {
+        let mut text = data("X = 1 ").into_bytes();
+        text.push(byte);
+        text.push(b'Z');
+        match byte {
+            b'\n' => refused(&text, Syntax, 3),
+            b' '..=b'~' | b'\t' => refused(&text, Syntax, 2),
+            _ => refused(&text, BadByte, 2),
+        }
+    }
+    admitted("\\begindata\n\t \t\n \n\n\tX\t=\t1\t\n", &["X = 1"]);
+}
+
+#[test]
+fn names() {
+    let longest = "a".repeat(32);
+    admitted(data(&format!("{longest}=1")), &[&format!("{longest} = 1")]);
+    refused(data(&format!("{longest}a=1")), Syntax, 2);
+    admitted(
+        data("9=1\n_=2\na=3\nA=4\nBODY4_PM=5"),
+        &["9 = 1", "_ = 2", "a = 3", "A = 4", "BODY4_PM = 5"],
+    );
+    for line in [
+        "=1", "+=1", "-A=1", "A-B=1", "A.B=1", "A B=1", "'A'=1", "A(1)=1", "A", "(1)", "A,=1",
+    ] {
+        refused(data(line), Syntax, 2);
+    }
+}
+
+#[test]
+fn operators() {
+    admitted(
+        data("X=1\nX =2\nX= 3\nX  \t=\t 4\nX+=5\nX +=6\nX+= 7"),
+        &[
+            "X = 1", "X = 2", "X = 3", "X = 4", "X += 5", "X += 6", "X += 7",
+        ],
+    );
+    admitted(
+        data("X=+1\nX=-1\nX+=+1\nX+=-1"),
+        &["X = 1", "X = -1", "X += 1", "X += -1"],
+    );
+    for line in [
+        "X", "X 1", "X + = 1", "X == 1", "X = = 1", "X += = 1", "X =+= 1", "X -= 1", "X ++= 1",
+        "X : 1", "X +", "X (1)",
+    ] {
+        refused(data(line), Syntax, 2);
+    }
+}
+
+#[test]
+fn name_operator_and_value_stand_on_one_line() {
+    refused(data("X\n= 1"), Syntax, 2);
+    refused(data("X =\n1"), Syntax, 2);
+    refused(data("X =\n( 1 )"), Syntax, 2);
+    refused(data("X +\n= 1"), Syntax, 2);
+    refused(data("X = "), Syntax, 2);
+}
+
+#[test]
+fn lists() {
+    admitted(
+        data("X=(1)\nX=( 1 )\nX=(1 2)\nX=(1,2)\nX=(,1,,2,)\nX = ( 1\t2 ,\t3 )"),
+        &[
+            "X = 1",
+            "X = 1",
+            "X = 1 2",
+            "X = 1 2",
+            "X = 1 2",
+            "X = 1 2 3",
+        ],
+    );
+    admitted(data("X = (\n1\n\n 2,\n,\t\n,3\n)"), &["X = 1 2 3"]);
+    admitted(data("X += (\r\n1\r\n)\r\nY = 2"), &["X += 1", "Y = 2"]);
+    admitted(data("X = ( 1\n2 )  \t\nY=3"), &["X = 1 2", "Y = 3"]);
+    for line in ["X = ( )", "X = ()", "X = (,)", "X = ( , \t )"] {
+        refused(data(line), Syntax, 2);
+    }
+    refused(data("X = (\n,\n)"), Syntax, 4);
+    for line in [
+        "X = ((1))",
+        "X = ( 1 ( 2 ) )",
+        "X = ( (",
+        "X = 1(",
+        "X = 1 (2)",
+        "X = (1(2)",
+    ] {
+        refused(data(line), Syntax, 2);
+    }
+    refused(data("X = (1\n(2)"), Syntax, 3);
+}
+
+#[test]
+fn after_a_statement_only_blanks_follow() {
+    admitted(data("X = 1 \t \nX = ( 1 ) \t"), &["X = 1", "X = 1"]);
+    for line in [
+        "X = 1,",
+        "X = 1 ,",
+        "X = 1 2",
+        "X = 1)",
+        "X = 1 )",
+        "X = (1),",
+        "X = (1) 2",
+        "X = (1))",
+        "X = (1)2",
+        "X = 1 Y = 2",
+        "X = (1) Y = 2",
+        "X = 1 #",
+        "X = , 1",
+        "X = ,",
+    ] {
+        refused(data(line), Syntax, 2);
+    }
+    refused(data("X = ( 1\n) Y = 2"), Syntax, 3);
+}
+
+#[test]
+fn delimiters_and_the_end_inside_a_list() {
+    refused(data("X = ( 1\n\\begintext\n)"), Syntax, 3);
+    refused(data("X = ( 1\n\\begindata\n)"), Syntax, 3);
+    refused(data("X = ( 1\n \\begintext x\n)"), Syntax, 3);
+    refused(data("X = ( 1"), Syntax, 2);
+    refused(data("X = ( 1\n"), Syntax, 2);
+    refused(data("X = ("), Syntax, 2);
+    refused(data("X = ( 1\n\n\n"), Syntax, 4);
+    refused(data("X = ( 1\n\n "), Syntax, 4);
+}
+
+#[test]
+fn the_order_of_faults_in_a_line() {
+    let long_and_bad = format!("X = 1E99 \u{1}{}", " ".repeat(80));
+    refused(data(&long_and_bad), LineTooLong, 2);
+    refused(data("X = 1E99 \u{1}"), BadByte, 2);
+    refused(data("X = ? \u{7f}"), BadByte, 2);
+    refused(data("X = 1E99 junk"), Number, 2);
+    refused(data("X = 1E99,"), Number, 2);
+    refused(data("X = ( 1E99"), Number, 2);
+    refused(data("X = ( 1E99 ( "), Number, 2);
+    refused(data("X = ( 1E99 a )"), Number, 2);
+    refused(data("X = ( a 1E99 )"), Syntax, 2);
+    refused(data("X = ( ( 1E99 )"), Syntax, 2);
+    refused(data("X X = 1E99"), Syntax, 2);
+    refused(data("X = 1 1E99"), Syntax, 2);
+    refused(data("X = 1E99E"), Syntax, 2);
+    refused(data("X = ( 1E99(2) )"), Number, 2);
+}
+
+#[test]
+fn the_first_faulty_line_decides() {
+    refused(data("X = 1E99\n?\n\u{1}"), Number, 2);
+    refused(data("?\nX = 1E99"), Syntax, 2);
+    refused(data("\u{1}\n?"), BadByte, 2);
+    refused(data(&format!("X = (1\n{}", "x".repeat(80))), LineTooLong, 3);
+    refused(
+        format!("{}\n\\begindata\n?", "x".repeat(80)),
+        LineTooLong,
+        1,
+    );
+}
+
+#[test]
+fn values_keep_their_order_and_signs() {
+    let statements = read(data("X = ( -0, 0 +0 )").as_bytes()).unwrap();
+    let bits: Vec<u64> = statements[0].values.iter().map(|x| x.to_bits()).collect();
+    assert_eq!(bits, [1 << 63, 0, 0]);
+}
