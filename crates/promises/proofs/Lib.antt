@@ -1,0 +1,2 @@
+-- What is promised, proved.
+pub mod Marked
