@@ -1,3 +1,4 @@
 -- A value's bytes, and the double that they are.
 pub mod Form
 pub mod Class
+pub mod Parts

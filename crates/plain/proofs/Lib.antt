@@ -1,4 +1,6 @@
 -- Laws about the words of the definitions, for the proofs of the crates above.
+pub mod Ranges
 pub mod Runs
+pub mod Tables
 pub mod Rounding
 pub mod Sizes

@@ -1,0 +1,5 @@
+-- Laws on the parts of a value and on its class, for the proofs of this crate and of those above.
+pub mod Alike
+pub mod Left
+pub mod Exponents
+pub mod Valued
