@@ -24,8 +24,8 @@ module _ (bs : List ℕ) (at w : ℕ) where
       record {
         ends = past-on digit bs end h d ∙ l .ends;
         writes =
-          alike-trans _ _ _ (alike-whole more (number * 10 + (getD bs end 0 - ZERO)) rest a)
-          (subst (λ (l : List ℕ). Alike (wholeFrom number l) (wholeFrom w (run digit (drop at bs)))) (run-on digit bs end h d) (l .writes));
+            alike-trans _ _ _ (alike-whole more (number * 10 + (getD bs end 0 - ZERO)) rest a)
+            (subst (λ (l : List ℕ). Alike (wholeFrom number l) (wholeFrom w (run digit (drop at bs)))) (run-on digit bs end h d) (l .writes));
       }
 
   pub left-none : (number end : ℕ) → run digit (drop end bs) ≡ [] → Left number end → DigitsAt bs at w (record { number = number; end = end })

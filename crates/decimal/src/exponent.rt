@@ -1,6 +1,7 @@
 // What follows the digits: nothing, or a letter, an optional sign and at least one digit.
 use super::Reading;
-use super::class::{Unscaled, evaluate};
+use super::class::Unscaled;
+use super::class::evaluate;
 use super::digits::read_digits;
 use super::sign::read_sign;
 ghost use mathlib.Core.Path.{_≡_};
@@ -37,8 +38,5 @@ pub(crate) fn scale_by_exponent(value: &[u8], at: usize, n: Unscaled) -> Reading
 fn is_letter(b: u8) -> bool
     ensures { λ r. ⌜ r ≡ letter b ⌝ }
 {
-    match b {
-        b'E' | b'e' | b'D' | b'd' => true,
-        _ => false,
-    }
+    (b == b'E') | (b == b'e') | (b == b'D') | (b == b'd')
 }

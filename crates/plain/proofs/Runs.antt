@@ -8,7 +8,7 @@ use native.Mathlib.Omega.{arith}
 use lib.ListN.{length, drop, getD, drop-of-length-le}
 use lib.Seq.{drop-drop, drop-cons}
 use Rattle.plain.specs.Choice.{if_then_else_}
-use Rattle.plain.specs.Runs.{run, skip, past}
+use Rattle.plain.specs.Runs.{run, skip, past, none}
 
 -- a run and what follows it are the list
 pub run-skip : (p : ℕ → Bool) (bs : List ℕ) → run p bs ++ skip p bs ≡ bs
@@ -71,3 +71,12 @@ module _ (p : ℕ → Bool) (bs : List ℕ) (i : ℕ) where
   pub past-none : run p (drop i bs) ≡ [] → past p bs i ≡ i
   unfolding past
   past-none e = rw e (omega arith)
+
+-- nothing is there exactly where the length is 0
+pub none-yes : (bs : List ℕ) → length bs ≡ 0 → none bs ≡ true
+none-yes [] h = refl
+none-yes (b ∷ bs) h = absurd (omega arith)
+
+pub none-no : (bs : List ℕ) → (length bs ≡ 0 → ⊥) → none bs ≡ false
+none-no [] h = absurd (h refl)
+none-no (b ∷ bs) h = refl
