@@ -1,2 +1,5 @@
 -- What is promised.
 pub mod Marked
+pub mod Calls
+pub mod Histories
+pub mod Demands

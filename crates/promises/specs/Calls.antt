@@ -1,0 +1,97 @@
+-- The eight calls as one: what a call answers on a memory, and the memory that it leaves. Definitions only: each line is the contract
+-- of a function of `globe`.
+use Prim.Native.Nat.{ℕ}
+use mathlib.Core.Bool.{Bool, true, false}
+use mathlib.Core.List.{List, [], _∷_}
+use lib.Dec.{eqb}
+use lib.Ieee.{Float}
+use lib.ListN.{length}
+use Rattle.refusal.specs.Numbers.{SUCCESS, numberOf}
+use Rattle.rotation.specs.declared.matrix.Oriented.{Oriented}
+use Rattle.rotation.specs.declared.matrix.Oriented.the-variants as O
+use Rattle.rotation.specs.declared.table.Radii.{Radii}
+use Rattle.rotation.specs.declared.table.Radii.the-variants as A
+use Rattle.pool.specs.Replies.{replyNumber, fetchedNumber, countsNumber}
+use Rattle.pool.specs.declared.reply.Reply.{Reply}
+use Rattle.pool.specs.declared.reply.Fetched.{Fetched}
+use Rattle.pool.specs.declared.reply.Counts.{Counts}
+use Rattle.pool.specs.Empty.{emptyReply, clearReply, emptied}
+use Rattle.pool.specs.Load.{loadReply, loadMemory}
+use Rattle.pool.specs.Remove.{removeReply, removeMemory}
+use Rattle.pool.specs.Fetch.{fetchReply, fetchBuffer}
+use Rattle.pool.specs.Totals.{totalsReply}
+use Rattle.globe.specs.Orientation.{orientationReply}
+use Rattle.globe.specs.Radii.{radiiReply}
+use Rattle.globe.specs.declared.source.Source.{Source}
+
+-- a call with its arguments; fetch comes with the buffer that is lent
+pub data Call : Type 0 where
+  makeEmpty : Call
+  load : (label : ℕ) (bytes : List ℕ) → Call
+  remove : (label : ℕ) → Call
+  clear : Call
+  fetch : (name : List ℕ) (buffer : List Float) → Call
+  totals : Call
+  orientation : Source → (code : ℕ) (epoch : Float) → Call
+  radii : Source → (code : ℕ) → Call
+
+-- what a call answers; fetch also leaves a buffer
+pub data Answer : Type 0 where
+  replied : Reply → Answer
+  fetched : Fetched → (buffer : List Float) → Answer
+  counted : Counts → Answer
+  oriented : Oriented → Answer
+  measured : Radii → Answer
+
+unfoldable pub asked : Call → (m : List ℕ) → Answer
+asked makeEmpty m = replied (emptyReply m)
+asked (load label bytes) m = replied (loadReply label bytes m)
+asked (remove label) m = replied (removeReply label m)
+asked clear m = replied (clearReply m)
+asked (fetch name buffer) m = fetched (fetchReply name (length buffer) m) (fetchBuffer name m buffer)
+asked totals m = counted (totalsReply m)
+asked (orientation source code epoch) m = oriented (orientationReply source m code epoch)
+asked (radii source code) m = measured (radiiReply source m code)
+
+-- the memory after a call
+unfoldable pub leaves : Call → (m : List ℕ) → List ℕ
+leaves makeEmpty m = emptied (emptyReply m) m
+leaves (load label bytes) m = loadMemory label bytes m
+leaves (remove label) m = removeMemory label m
+leaves clear m = emptied (clearReply m) m
+leaves (fetch name buffer) m = m
+leaves totals m = m
+leaves (orientation source code epoch) m = m
+leaves (radii source code) m = m
+
+-- document 01's number of an answer
+abbrev pub number : Answer → ℕ
+number (replied r) = replyNumber r
+number (fetched r buffer) = fetchedNumber r
+number (counted r) = countsNumber r
+number (oriented (O.Given o)) = SUCCESS
+number (oriented (O.Refused q)) = numberOf q
+number (measured (A.Given x)) = SUCCESS
+number (measured (A.Refused q)) = numberOf q
+
+abbrev pub accepted : Answer → Bool
+accepted a = eqb (number a) SUCCESS
+
+-- ---- the buffer that a call is lent, and the one that it gives back
+
+abbrev pub lent : Call → List Float
+lent makeEmpty = []
+lent (load label bytes) = []
+lent (remove label) = []
+lent clear = []
+lent (fetch name buffer) = buffer
+lent totals = []
+lent (orientation source code epoch) = []
+lent (radii source code) = []
+
+abbrev pub returned : Answer → List Float
+returned (replied r) = []
+returned (fetched r buffer) = buffer
+returned (counted r) = []
+returned (oriented r) = []
+returned (measured r) = []
