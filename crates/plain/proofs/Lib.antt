@@ -3,4 +3,6 @@ pub mod Ranges
 pub mod Runs
 pub mod Tables
 pub mod Rounding
+pub mod Values
 pub mod Sizes
+pub mod Bounded
