@@ -2,3 +2,4 @@
 pub mod Wrap
 pub mod Series
 pub mod Sine
+pub mod Range
