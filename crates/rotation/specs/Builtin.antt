@@ -1,6 +1,6 @@
 -- The answers of the built-in source, and their refusals: 9, then 10. Definitions only.
 use Prim.Native.Nat.{ℕ}
-use mathlib.Core.List.{List, []}
+use mathlib.Core.List.{[]}
 use lib.Dec.{eqb}
 use lib.Ieee.{Float}
 use Rattle.plain.specs.Choice.{if_then_else_}
@@ -17,7 +17,6 @@ use Rattle.rotation.specs.declared.matrix.Oriented.{Oriented}
 use Rattle.rotation.specs.declared.matrix.Oriented.the-variants as O
 use Rattle.rotation.specs.declared.table.Row.{Row}
 use Rattle.rotation.specs.declared.table.Row.the-variants.{Held, NoRow}
-use Rattle.rotation.specs.declared.table.Axes.{Axes}
 use Rattle.rotation.specs.declared.table.Size.{Size}
 use Rattle.rotation.specs.declared.table.Size.the-variants.{Known, NoSize}
 use Rattle.rotation.specs.declared.table.Radii.{Radii}

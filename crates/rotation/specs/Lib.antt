@@ -6,3 +6,5 @@ pub mod Evaluation
 pub mod Codes
 pub mod Table
 pub mod Builtin
+pub mod Range
+pub mod Finite

@@ -6,10 +6,8 @@ use lib.Ieee.{Float, neg}
 use Rattle.plain.specs.Choice.{if_then_else_}
 use Rattle.plain.specs.Doubles.{printed}
 use Rattle.rotation.specs.declared.elements.Polynomial.{Polynomial}
-use Rattle.rotation.specs.declared.elements.Elements.{Elements}
 use Rattle.rotation.specs.declared.table.Row.{Row}
 use Rattle.rotation.specs.declared.table.Row.the-variants.{Held, NoRow}
-use Rattle.rotation.specs.declared.table.Axes.{Axes}
 use Rattle.rotation.specs.declared.table.Size.{Size}
 use Rattle.rotation.specs.declared.table.Size.the-variants.{Known, NoSize}
 

@@ -1,0 +1,6 @@
+-- What is proved about every answered orientation, for the crates above.
+pub mod Range
+pub mod Reach
+pub mod Finite
+pub mod Given
+pub mod Answers

@@ -1,0 +1,37 @@
+-- "Every held value finite and of size below 2^200, so that no evaluation overflows." Definitions only.
+use Prim.Native.Nat.{ℕ, _≤_, _<_}
+use mathlib.Core.Path.{_≡_}
+use mathlib.Core.Bool.{true}
+use mathlib.Core.List.{List}
+use lib.Ieee.{Float, nan}
+use lib.Ieee.Scale.{finite}
+use lib.ListN.{length, getD}
+use Rattle.plain.specs.Sizes.{Below}
+use Rattle.rotation.specs.declared.elements.Polynomial.{Polynomial}
+use Rattle.rotation.specs.declared.matrix.Orientation.{Orientation}
+
+-- each of the twelve numbers is neither a NaN nor an infinity
+pub record Finite (o : Orientation) : Type 0 where
+  pub ra : finite (o .ra) ≡ true
+  pub dec : finite (o .dec) ≡ true
+  pub w : finite (o .w) ≡ true
+  pub m11 : finite (o .m11) ≡ true
+  pub m12 : finite (o .m12) ≡ true
+  pub m13 : finite (o .m13) ≡ true
+  pub m21 : finite (o .m21) ≡ true
+  pub m22 : finite (o .m22) ≡ true
+  pub m23 : finite (o .m23) ≡ true
+  pub m31 : finite (o .m31) ≡ true
+  pub m32 : finite (o .m32) ≡ true
+  pub m33 : finite (o .m33) ≡ true
+
+-- values of size below 2 ^ 200, as a pool holds them
+pub record SmallPolynomial (p : Polynomial) : Type 0 where
+  pub c0 : Below 200 (p .c0)
+  pub c1 : Below 200 (p .c1)
+  pub c2 : Below 200 (p .c2)
+
+-- one for each of at most 32 angles
+pub record SmallCoefficients (cs : List Float) : Type 0 where
+  pub few : length cs ≤ 32
+  pub each : (i : ℕ) → i < length cs → Below 200 (getD cs i nan)
