@@ -1,8 +1,11 @@
--- Laws on the parts of a value and on its class, for the proofs of this crate and of those above.
-pub mod Alike
-pub mod Left
-pub mod Places
-pub mod Exponents
-pub mod Valued
-pub mod Scaled
-pub mod Pointed
+-- What is true of every value that is read.
+pub mod Exact
+pub mod Bounded
+-- Laws on the parts of a value, for the proofs of this crate.
+mod Alike
+mod Left
+mod Places
+mod Exponents
+mod Valued
+mod Scaled
+mod Pointed

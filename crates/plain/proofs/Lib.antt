@@ -4,5 +4,7 @@ pub mod Runs
 pub mod Tables
 pub mod Rounding
 pub mod Values
+pub mod Products
 pub mod Sizes
 pub mod Bounded
+pub mod Bits

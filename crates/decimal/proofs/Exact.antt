@@ -1,0 +1,50 @@
+-- "Both operands are exact, so it is rounded once": up to the largest w every whole number is a double, and up to the steepest k every power
+-- of ten, since 5^22 has no more digits than a double keeps. Assumes nothing.
+use Prim.Native.Nat.{ℕ, zero, suc, _+_, _*_, _^_, _≤_, _<_}
+use mathlib.Core.Path.{_≡_, refl, ap, sym, subst, _∙_}
+use mathlib.Core.Bool.{Bool, false}
+use native.Mathlib.Nat.{lt-of-le-of-lt, one-le-pow, mul-one, mul-assoc, mul-mul-mul-comm, mul-le-mul-left, mul-le-mul-right, mul-lt-mul-of-pos-right, le-trans, pow-suc, pow-le-pow-right}
+use lib.Dec.{lit<, lit≤}
+use lib.IntN.{pos, negsuc}
+use lib.Pow.{pow-add, pow-pos}
+use lib.Ieee.{binary64, low, emax, ofInt, round}
+use lib.Ieee.Back.{round-whole}
+use lib.Ieee.Exact.{HasValue, round-exact}
+use Rattle.plain.proofs.Products.{mul-of-values, div-of-values}
+use Rattle.decimal.specs.Class.{LARGEST, STEEPEST, double, scaledBy}
+
+pub whole-exact : (w : ℕ) → w ≤ LARGEST → HasValue (double w) false w 1
+unfolding ofInt
+whole-exact w h = round-whole binary64 false w h
+
+ten-pow : (k : ℕ) → 10 ^ k ≡ 5 ^ k * 2 ^ k
+ten-pow zero = refl
+ten-pow (suc k) =
+    pow-suc 10 k
+    ∙ ap (λ (n : ℕ). n * 10) (ten-pow k)
+    ∙ mul-mul-mul-comm (5 ^ k) (2 ^ k) 5 2
+    ∙ ap (λ (n : ℕ). n * (2 ^ k * 2)) (sym (pow-suc 5 k))
+    ∙ ap (λ (n : ℕ). 5 ^ suc k * n) (sym (pow-suc 2 k))
+
+pub power-exact : (k : ℕ) → k ≤ STEEPEST → HasValue (double (10 ^ k)) false (10 ^ k) 1
+unfolding ofInt
+power-exact k h =
+    let l = low binary64 in
+    let e : 10 ^ k * 2 ^ l ≡ 5 ^ k * 2 ^ (k + l) =
+    ap (λ (n : ℕ). n * 2 ^ l) (ten-pow k) ∙ mul-assoc (5 ^ k) (2 ^ k) (2 ^ l) ∙ ap (λ (n : ℕ). 5 ^ k * n) (sym (pow-add 2 k l)) in
+    let five : 5 ^ k ≤ 5 ^ STEEPEST = pow-le-pow-right (lit< tt) h in
+    let ten : 10 ^ k ≤ 10 ^ STEEPEST = pow-le-pow-right (lit< tt) h in
+    round-exact binary64 false (10 ^ k) 1 (5 ^ k) (k + l) (lit< tt) (lt-of-le-of-lt five (lit< tt))
+    (subst (λ (n : ℕ). n < 2 ^ (l + suc (emax binary64))) e (lt-of-le-of-lt (mul-le-mul-right (2 ^ l) ten) (lit< tt)))
+    (e ∙ sym (mul-one (5 ^ k * 2 ^ (k + l))))
+
+-- the value is rounded once
+pub times-once : (w k : ℕ) → w ≤ LARGEST → k ≤ STEEPEST → scaledBy w (pos k) ≡ round binary64 false (w * 10 ^ k) 1
+times-once w k h g =
+    mul-of-values binary64 (double w) (double (10 ^ k)) false false w 1 (10 ^ k) 1 (lit< tt) (lit< tt) (whole-exact w h) (power-exact k g)
+
+pub over-once : (w k : ℕ) → w ≤ LARGEST → suc k ≤ STEEPEST → scaledBy w (negsuc k) ≡ round binary64 false w (10 ^ suc k)
+over-once w k h g =
+    div-of-values binary64 (double w) (double (10 ^ suc k)) false false w 1 (10 ^ suc k) 1 (lit< tt) (lit< tt) (one-le-pow (suc k) 10 (lit< tt)) (whole-exact w h) (power-exact (suc k) g)
+    ∙ ap (λ (n : ℕ). round binary64 false n (10 ^ suc k * 1)) (mul-one w)
+    ∙ ap (λ (n : ℕ). round binary64 false w n) (mul-one (10 ^ suc k))
