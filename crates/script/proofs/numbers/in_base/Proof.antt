@@ -1,0 +1,73 @@
+-- `in_base` is safe and ends: what is tested before a digit is added leaves room for it. Assumes nothing.
+use Prim.Native.Nat.{_≤_, _-_}
+use native.Mathlib.Nat.{mul-le-mul-left}
+use native.Mathlib.Omega.{arith}
+use lib.ListN.{length}
+use borrow.Author.Needs.{needs}
+use Rattle.script.proofs.numbers.in_base.Statement.{statement}
+use Rattle.script.proofs.numbers.in_base.Tie as tie
+
+abbrev Inv-loop : tie.InvT-loop
+Inv-loop field base n₀ i₀ n i = i ≤ length field
+
+abbrev μ-loop : tie.MeasureT-loop
+μ-loop field base n₀ i₀ n i = length field - i
+
+returns : tie.Need-returns Inv-loop μ-loop
+returns c = search needs
+
+loop-holds : tie.Need-loop-holds Inv-loop μ-loop
+loop-holds c = search needs
+
+shared-slice-read-digit : tie.Need-shared-slice-read-digit Inv-loop μ-loop
+shared-slice-read-digit c = search needs
+
+digit-requires : tie.Need-digit-requires Inv-loop μ-loop
+digit-requires c κs = search needs
+
+returns-2 : tie.Need-returns-2 Inv-loop μ-loop
+returns-2 c = search needs
+
+returns-3 : tie.Need-returns-3 Inv-loop μ-loop
+returns-3 c = search needs
+
+mul-n : tie.Need-mul-n Inv-loop μ-loop
+mul-n c =
+    let at = c .before .before .before .before .before in
+    omega (arith, mul-le-mul-left (at .loop .n) (at .before .before .before .pre))
+
+add-n : tie.Need-add-n Inv-loop μ-loop
+add-n c =
+    let at = c .before .before .before .before .before in
+    omega (arith, mul-le-mul-left (at .loop .n) (at .before .before .before .pre))
+
+add-i : tie.Need-add-i Inv-loop μ-loop
+add-i c = search needs
+
+loop-less : tie.Need-loop-less Inv-loop μ-loop
+loop-less c = search needs
+
+loop-again : tie.Need-loop-again Inv-loop μ-loop
+loop-again c = search needs
+
+returns-4 : tie.Need-returns-4 Inv-loop μ-loop
+returns-4 c = search needs
+
+pub in-base-spec : {M : Type 1} → statement M
+in-base-spec =
+    tie.close
+    (tie.spec
+    Inv-loop
+    μ-loop
+    returns
+    loop-holds
+    shared-slice-read-digit
+    digit-requires
+    returns-2
+    returns-3
+    mul-n
+    add-n
+    add-i
+    loop-less
+    loop-again
+    returns-4)
