@@ -2,6 +2,7 @@
 pub mod Ranges
 pub mod Runs
 pub mod Tables
+pub mod Places
 pub mod Rounding
 pub mod Values
 pub mod Products

@@ -5,8 +5,8 @@ use mathlib.Core.List.{List}
 use lib.Dec.{eqb}
 use lib.ListN.{getD}
 use Rattle.plain.specs.Bytes.{TAB, LF, SPACE, OPEN, CLOSE, COMMA, UNDERSCORE, UPPER-A, UPPER-Z, LOWER-A, LOWER-Z, within, digit}
-use Rattle.text.specs.declared.Class.{Class}
-use Rattle.text.specs.declared.Class.the-variants as C
+use Rattle.text.specs.declared.classes.Class.{Class}
+use Rattle.text.specs.declared.classes.Class.the-variants as C
 
 -- "A blank is a space or tab."
 abbrev pub blank : ℕ → Bool

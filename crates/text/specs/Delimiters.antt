@@ -6,8 +6,8 @@ use lib.Dec.{eqb}
 use Rattle.plain.specs.Choice.{if_then_else_}
 use Rattle.plain.specs.Runs.{skip, none}
 use Rattle.text.specs.Classes.{blank}
-use Rattle.text.specs.declared.Mark.{Mark}
-use Rattle.text.specs.declared.Mark.the-variants as M
+use Rattle.text.specs.declared.delimiters.Mark.{Mark}
+use Rattle.text.specs.declared.delimiters.Mark.the-variants as M
 
 -- \begindata
 abbrev pub BEGINDATA : List ℕ

@@ -2,8 +2,8 @@
 -- Definitions only. A fault goes with its place in the line, counted in bytes from 0.
 use Rattle.refusal.specs.declared.Refusal.{Refusal}
 use Rattle.refusal.specs.declared.Refusal.the-variants as R
-use Rattle.text.specs.declared.Fault.{Fault}
-use Rattle.text.specs.declared.Fault.the-variants as F
+use Rattle.text.specs.declared.faults.Fault.{Fault}
+use Rattle.text.specs.declared.faults.Fault.the-variants as F
 
 abbrev pub refusalOf : Fault → Refusal
 refusalOf F.TooLong = R.LineTooLong

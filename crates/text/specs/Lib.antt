@@ -1,6 +1,7 @@
 -- Document 01, "Text rules", in its order.
 pub mod Lines
 pub mod Classes
+pub mod Masks
 pub mod Delimiters
 pub mod Faults
 pub mod Values

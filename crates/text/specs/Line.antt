@@ -12,16 +12,18 @@ use Rattle.text.specs.Classes.{fair}
 use Rattle.text.specs.Delimiters.{markOf}
 use Rattle.text.specs.Values.{Given, given, wrong, listed, givenAt}
 use Rattle.text.specs.Statements.{Event, opened, value, head, openings, givings}
-use Rattle.text.specs.declared.Answer.{Answer}
-use Rattle.text.specs.declared.Answer.the-variants as A
-use Rattle.text.specs.declared.Fault.{Fault}
-use Rattle.text.specs.declared.Fault.the-variants as F
-use Rattle.text.specs.declared.Head.{Head}
-use Rattle.text.specs.declared.Head.the-variants as H
-use Rattle.text.specs.declared.Mark.{Mark}
-use Rattle.text.specs.declared.Mark.the-variants as M
-use Rattle.text.specs.declared.Reader.{Reader}
-use Rattle.text.specs.declared.Reader.the-variants as R
+use Rattle.text.specs.declared.line.Answer.{Answer}
+use Rattle.text.specs.declared.line.Answer.the-variants as A
+use Rattle.text.specs.declared.faults.Fault.{Fault}
+use Rattle.text.specs.declared.faults.Fault.the-variants as F
+use Rattle.text.specs.declared.statements.Head.{Head}
+use Rattle.text.specs.declared.statements.Head.the-variants as H
+use Rattle.text.specs.declared.delimiters.Mark.{Mark}
+use Rattle.text.specs.declared.delimiters.Mark.the-variants as M
+use Rattle.text.specs.declared.line.Reader.{Reader}
+use Rattle.text.specs.declared.line.Reader.the-variants as R
+use Rattle.text.specs.declared.values.Taken.{Taken}
+use Rattle.text.specs.declared.values.Taken.the-variants as T
 
 pub data Outcome : Type 0 where
   next : Reader → List Event → Outcome
@@ -73,3 +75,8 @@ answered r line = if ltb LONGEST (length line) then fault F.TooLong LONGEST else
 abbrev pub counted : Outcome → Answer
 counted (next r es) = A.Next r (openings es) (givings es)
 counted (fault q k) = A.Fault q k
+
+-- of a line that opens so many statements and then takes values
+abbrev pub answerOf : (opened : ℕ) → Taken → Answer
+answerOf n (T.Values r k) = A.Next r n k
+answerOf n (T.Fault q k) = A.Fault q k

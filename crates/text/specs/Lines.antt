@@ -1,11 +1,14 @@
 -- "Lines end at LF; one CR just before it is dropped, and length is counted without it; a last line needs no LF, and after a final LF
 -- there is no further line; lines count from 1. No line is over 79 bytes, text sections included." Definitions only.
-use Prim.Native.Nat.{ℕ}
+use Prim.Native.Nat.{ℕ, _+_, _-_, _≤_, _<_}
+use mathlib.Core.Path.{_≡_}
 use mathlib.Core.Bool.{Bool, true, false, _&&_}
 use mathlib.Core.List.{List, [], _∷_}
 use lib.Dec.{eqb}
+use lib.ListN.{length, take, drop}
 use Rattle.plain.specs.Choice.{if_then_else_}
 use Rattle.plain.specs.Bytes.{LF, CR}
+use Rattle.text.specs.declared.lines.Cut.{Cut}
 
 -- the longest line
 abbrev pub LONGEST : ℕ
@@ -26,3 +29,10 @@ lines [] = []
 lines (b ∷ bs) =
     if eqb b LF then [] ∷ lines bs
     else (if eqb b CR && atLF bs then lines bs else before b (lines bs))
+
+-- where the line that starts at a place of a text ends, and where the next one starts
+pub record Cuts (text : List ℕ) (i : ℕ) (c : Cut) : Type 0 where
+  pub starts : i ≤ c .end
+  pub ends : c .end < c .next
+  pub stays : c .next ≤ length text + 1
+  pub line : lines (drop i text) ≡ take (c .end - i) (drop i text) ∷ lines (drop (c .next) text)

@@ -9,12 +9,12 @@ use Rattle.plain.specs.Choice.{if_then_else_}
 use Rattle.plain.specs.Bytes.{PLUS, EQUALS, within}
 use Rattle.plain.specs.Runs.{past}
 use Rattle.text.specs.Classes.{blank, nameByte, stands}
-use Rattle.text.specs.declared.Fault.{Fault}
-use Rattle.text.specs.declared.Fault.the-variants as F
-use Rattle.text.specs.declared.Head.{Head}
-use Rattle.text.specs.declared.Head.the-variants as H
-use Rattle.text.specs.declared.Operator.{Operator}
-use Rattle.text.specs.declared.Operator.the-variants as O
+use Rattle.text.specs.declared.faults.Fault.{Fault}
+use Rattle.text.specs.declared.faults.Fault.the-variants as F
+use Rattle.text.specs.declared.statements.Head.{Head}
+use Rattle.text.specs.declared.statements.Head.the-variants as H
+use Rattle.text.specs.declared.statements.Operator.{Operator}
+use Rattle.text.specs.declared.statements.Operator.the-variants as O
 
 -- a statement: its name's bytes, its operator, the bits of its values
 pub record Statement : Type 0 where

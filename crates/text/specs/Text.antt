@@ -7,10 +7,10 @@ use Rattle.text.specs.Statements.{Event, Statement, statements, openings
 use Rattle.text.specs.Line.{Outcome, next, fault, answered}
 use Rattle.text.specs.declared.Checked.{Checked}
 use Rattle.text.specs.declared.Checked.the-variants as C
-use Rattle.text.specs.declared.Fault.{Fault}
-use Rattle.text.specs.declared.Fault.the-variants as F
-use Rattle.text.specs.declared.Reader.{Reader}
-use Rattle.text.specs.declared.Reader.the-variants as R
+use Rattle.text.specs.declared.faults.Fault.{Fault}
+use Rattle.text.specs.declared.faults.Fault.the-variants as F
+use Rattle.text.specs.declared.line.Reader.{Reader}
+use Rattle.text.specs.declared.line.Reader.the-variants as R
 
 -- all that a text adds, or its first fault with the line's number and the place in the line
 pub data Read : Type 0 where

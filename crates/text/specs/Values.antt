@@ -12,18 +12,19 @@ use Rattle.decimal.specs.Class.{reading}
 use Rattle.decimal.specs.declared.Reading.{Reading}
 use Rattle.decimal.specs.declared.Reading.the-variants as D
 use Rattle.text.specs.Classes.{blank, separator, valueByte, stands}
-use Rattle.text.specs.declared.Fault.{Fault}
-use Rattle.text.specs.declared.Fault.the-variants as F
-use Rattle.text.specs.declared.Item.{Item}
-use Rattle.text.specs.declared.Item.the-variants as I
-use Rattle.text.specs.declared.Stop.{Stop}
-use Rattle.text.specs.declared.Stop.the-variants as S
-use Rattle.text.specs.declared.Taken.{Taken}
-use Rattle.text.specs.declared.Taken.the-variants as T
-use Rattle.text.specs.declared.Word.{Word}
-use Rattle.text.specs.declared.Word.the-variants as W
-use Rattle.text.specs.declared.Reader.{Reader}
-use Rattle.text.specs.declared.Reader.the-variants as R
+use Rattle.text.specs.declared.values.Counted.{Counted}
+use Rattle.text.specs.declared.faults.Fault.{Fault}
+use Rattle.text.specs.declared.faults.Fault.the-variants as F
+use Rattle.text.specs.declared.values.Item.{Item}
+use Rattle.text.specs.declared.values.Item.the-variants as I
+use Rattle.text.specs.declared.values.Stop.{Stop}
+use Rattle.text.specs.declared.values.Stop.the-variants as S
+use Rattle.text.specs.declared.values.Taken.{Taken}
+use Rattle.text.specs.declared.values.Taken.the-variants as T
+use Rattle.text.specs.declared.values.Word.{Word}
+use Rattle.text.specs.declared.values.Word.the-variants as W
+use Rattle.text.specs.declared.line.Reader.{Reader}
+use Rattle.text.specs.declared.line.Reader.the-variants as R
 
 -- ---- one value
 
@@ -72,6 +73,10 @@ itemsUpTo (suc n) line i = further (item line i) (itemsUpTo n line)
 
 abbrev pub items : List ℕ → ℕ → Items
 items line i = itemsUpTo (length line) line i
+
+-- the same as the code gives it: how many numbers
+abbrev pub tally : Items → Counted
+tally is = record { numbers = length (is .numbers); stop = is .stop }
 
 -- ---- what a statement's values leave behind
 

@@ -1,0 +1,2 @@
+-- Laws that several proofs use, and the theorems about the definitions.
+pub mod Masks

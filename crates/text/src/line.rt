@@ -1,0 +1,105 @@
+// The answer to one line: document 01, "in it 3, then 4, then whichever of 5 and 6 starts at the earlier byte".
+use crate::classes;
+use crate::classes::Class;
+use crate::delimiters;
+use crate::delimiters::Mark;
+use crate::faults::Fault;
+use crate::lines::LONGEST;
+use crate::statements;
+use crate::statements::Head;
+use crate::values;
+use crate::values::Taken;
+ghost use mathlib.Core.Path.{_≡_};
+ghost use mathlib.Core.List.{List, []};
+ghost use Rattle.text.specs.Values.{listed};
+ghost use Rattle.text.specs.Statements.{head};
+ghost use Rattle.text.specs.Line.{answered, counted, section, plain, fairly, stated, adding, answerOf};
+
+// How the reader stands between two lines: in a text section, in a data section, or there in a list without or with numbers so far.
+pub enum Reader {
+    Text,
+    Data,
+    Open,
+    Filled,
+}
+
+// The reader after a line, and how many statements the line opens and values it gives; or its first fault.
+pub enum Answer {
+    Next(Reader, usize, usize),
+    Fault(Fault, usize),
+}
+
+pub fn line_step(reader: Reader, line: &[u8]) -> Answer
+    ensures { λ r. ⌜ r ≡ counted (answered reader (now (line .entry))) ⌝ }
+{
+    if LONGEST < line.len() {
+        return Answer::Fault(Fault::TooLong, LONGEST);
+    }
+    let mark = delimiters::read_mark(line);
+    match mark {
+        Mark::Data => open_section(reader, Reader::Data),
+        Mark::Text => open_section(reader, Reader::Text),
+        Mark::Plain => plain(reader, line),
+    }
+}
+
+// A delimiter line.
+fn open_section(reader: Reader, opened: Reader) -> Answer
+    ensures { λ r. ⌜ r ≡ counted (section reader opened) ⌝ }
+{
+    match reader {
+        Reader::Text => Answer::Next(opened, 0, 0),
+        Reader::Data => Answer::Next(opened, 0, 0),
+        Reader::Open => Answer::Fault(Fault::OpenList, 0),
+        Reader::Filled => Answer::Fault(Fault::OpenList, 0),
+    }
+}
+
+// A line that is no delimiter.
+fn plain(reader: Reader, line: &[u8]) -> Answer
+    ensures { λ r. ⌜ r ≡ counted (plain reader (now (line .entry))) ⌝ }
+{
+    match reader {
+        Reader::Text => Answer::Next(Reader::Text, 0, 0),
+        Reader::Data => statement(line),
+        Reader::Open => list_on(false, line),
+        Reader::Filled => list_on(true, line),
+    }
+}
+
+// A data line outside a list: a statement, or blanks.
+fn statement(line: &[u8]) -> Answer
+    ensures { λ r. ⌜ r ≡ counted (fairly (now (line .entry)) (stated (now (line .entry)) (head (now (line .entry))))) ⌝ }
+{
+    let k = classes::past(Class::Fair, line, 0);
+    if k < line.len() {
+        return Answer::Fault(Fault::BadByte, k);
+    }
+    let head = statements::read_head(line);
+    match head {
+        Head::Blank => Answer::Next(Reader::Data, 0, 0),
+        Head::Named(_, _, _, at) => answer_of(1, values::value(line, at)),
+        Head::Fault(fault, place) => Answer::Fault(fault, place),
+    }
+}
+
+// A data line inside a list.
+fn list_on(filled: bool, line: &[u8]) -> Answer
+    ensures { λ r. ⌜ r ≡ counted (fairly (now (line .entry)) (adding [] (listed filled (now (line .entry)) 0))) ⌝ }
+{
+    let k = classes::past(Class::Fair, line, 0);
+    if k < line.len() {
+        return Answer::Fault(Fault::BadByte, k);
+    }
+    answer_of(0, values::list(filled, line, 0))
+}
+
+// The answer of a line that opens so many statements and then takes values.
+fn answer_of(opened: usize, taken: Taken) -> Answer
+    ensures { λ r. ⌜ r ≡ answerOf opened taken ⌝ }
+{
+    match taken {
+        Taken::Values(reader, given) => Answer::Next(reader, opened, given),
+        Taken::Fault(fault, place) => Answer::Fault(fault, place),
+    }
+}

@@ -1,0 +1,73 @@
+// A statement up to its values: document 01, "Name", "Then, blanks optional, `=` (direct) or `+=` (append)".
+use crate::classes;
+use crate::classes::Class;
+use crate::faults::Fault;
+ghost use mathlib.Core.Path.{_≡_};
+ghost use Rattle.plain.specs.Runs.{past};
+ghost use Rattle.text.specs.Classes.{nameByte};
+ghost use Rattle.text.specs.Statements.{head, named, operated};
+
+// The longest name.
+pub const NAME: usize = 32;
+
+pub enum Operator {
+    Direct,
+    Append,
+}
+
+// What a data line opens with: nothing but blanks; a name from a place to a place, its operator and where its values start; a fault.
+pub enum Head {
+    Blank,
+    Named(usize, usize, Operator, usize),
+    Fault(Fault, usize),
+}
+
+pub fn read_head(line: &[u8]) -> Head
+    ensures { λ r. ⌜ r ≡ head (now (line .entry)) ⌝ }
+{
+    let start = classes::past(Class::Blank, line, 0);
+    if start < line.len() {
+        return read_name(line, start);
+    }
+    Head::Blank
+}
+
+// A name that starts at a place, and what follows it.
+fn read_name(line: &[u8], start: usize) -> Head
+    ensures { λ r. ⌜ r ≡ named (now (line .entry)) start (past nameByte (now (line .entry)) start) ⌝ }
+{
+    let end = classes::past(Class::Name, line, start);
+    let long = end - start;
+    if long < 1 {
+        return Head::Fault(Fault::BadName, start);
+    }
+    if NAME < long {
+        return Head::Fault(Fault::BadName, start);
+    }
+    read_operator(line, start, end, classes::past(Class::Blank, line, end))
+}
+
+// The operator at a place, after the name from `start` to `end`.
+fn read_operator(line: &[u8], start: usize, end: usize, at: usize) -> Head
+    ensures { λ r. ⌜ r ≡ operated (now (line .entry)) start end at ⌝ }
+{
+    if classes::stands(b'=', line, at) {
+        return Head::Named(
+            start,
+            end,
+            Operator::Direct,
+            classes::past(Class::Blank, line, at + 1),
+        );
+    }
+    if classes::stands(b'+', line, at) {
+        if classes::stands(b'=', line, at + 1) {
+            return Head::Named(
+                start,
+                end,
+                Operator::Append,
+                classes::past(Class::Blank, line, at + 2),
+            );
+        }
+    }
+    Head::Fault(Fault::NoOperator, at)
+}
