@@ -1,2 +1,4 @@
 -- Laws that several proofs use, and the theorems about the definitions.
 pub mod Masks
+pub mod Words
+pub mod Standing

@@ -1,58 +1,59 @@
+-- `is_word` meets its contract: what is left of the word, compared with what is left of the line, is the whole comparison. Assumes nothing.
+use Prim.Native.Nat.{_≤_, _-_}
+use native.Mathlib.Omega.{arith}
+use mathlib.Core.Path.{_≡_, refl, sym, _∙_}
+use borrow.Author.Needs.{needs}
+use lib.ListN.{length, drop}
+use Rattle.text.specs.Delimiters.{word}
+use Rattle.text.proofs.Words.{word-step, word-differs, word-short, word-end}
 use Rattle.text.proofs.delimiters.is_word.Statement.{statement}
 use Rattle.text.proofs.delimiters.is_word.Tie as tie
-use Rattle.text.proofs.delimiters.is_word.Reads as reads
-use Rattle.text.proofs.delimiters.is_word.Lts as lts
-use Rattle.text.proofs.classes.past.Reads as past-reads
 
 abbrev Inv-loop : tie.InvT-loop
-Inv-loop expected line at i₀ j₀ i j = ?
+Inv-loop expected line at i₀ j₀ i j = (j ≤ length expected) × (word (drop j expected) (drop i line) ≡ word expected (drop at line))
 
 abbrev μ-loop : tie.MeasureT-loop
-μ-loop expected line at i₀ j₀ i j = ?
+μ-loop expected line at i₀ j₀ i j = length expected - j
 
--- src/delimiters.rt:34:5
 loop-holds : tie.Need-loop-holds Inv-loop μ-loop
-loop-holds c = ?
+loop-holds c = (omega arith, refl)
 
--- src/delimiters.rt:36:13
 returns : tie.Need-returns Inv-loop μ-loop
-returns c = ?
+returns c = sym (word-short _ _ _ _ (c .before .loop-test .taken) (c .if1 .taken)) ∙ c .before .before .loop .inv .1
 
--- src/delimiters.rt:38:12
 shared-slice-read-if2 : tie.Need-shared-slice-read-if2 Inv-loop μ-loop
-shared-slice-read-if2 c = ?
+shared-slice-read-if2 c = search needs
 
--- src/delimiters.rt:38:23
 shared-slice-read-if2-2 : tie.Need-shared-slice-read-if2-2 Inv-loop μ-loop
-shared-slice-read-if2-2 c = ?
+shared-slice-read-if2-2 c = search needs
 
--- src/delimiters.rt:39:13
 returns-2 : tie.Need-returns-2 Inv-loop μ-loop
-returns-2 c = ?
+returns-2 c =
+    let a = c .before .before .before .before in
+    sym (word-differs _ _ _ _ (a .loop-test .taken) (c .before .before .before .if1 .left) (c .if2 .taken)) ∙ a .before .loop .inv .1
 
--- src/delimiters.rt:41:9
 add-i : tie.Need-add-i Inv-loop μ-loop
-add-i c = ?
+add-i c = search needs
 
--- src/delimiters.rt:42:9
 add-j : tie.Need-add-j Inv-loop μ-loop
-add-j c = ?
+add-j c = search needs
 
--- src/delimiters.rt:34:5
 loop-less : tie.Need-loop-less Inv-loop μ-loop
-loop-less c = ?
+loop-less c = search needs
 
--- src/delimiters.rt:34:5
 loop-again : tie.Need-loop-again Inv-loop μ-loop
-loop-again c = ?
+loop-again c =
+    let a = c .before .before .before .before in
+    (omega arith, word-step _ _ _ _ (a .loop-test .taken) (c .before .before .before .if1 .left) (c .if2 .left) ∙ a .before .loop .inv .1)
 
--- src/delimiters.rt:44:19
 past-requires : tie.Need-past-requires Inv-loop μ-loop
-past-requires c κs = ?
+past-requires c κs = search needs
 
--- src/delimiters.rt:29:1
 returns-3 : tie.Need-returns-3 Inv-loop μ-loop
-returns-3 c = ?
+returns-3 c =
+    let a = c .before .before in
+    let line = a .before .before .before .args .line .now in
+    rw (c .past .ensures) (sym (word-end _ line _ (a .loop .i) (c .before .loop-test .left)) ∙ a .loop .inv .1)
 
 pub is-word-spec : {M : Type 1} → statement M
 is-word-spec =

@@ -1,42 +1,46 @@
+-- `read_mark` meets its contract: each way out is one case of `markOf`. Assumes nothing.
+use mathlib.Core.Path.{sym, _∙_}
+use Rattle.text.specs.Delimiters.{BEGINDATA, BEGINTEXT, markOf}
+use Rattle.text.proofs.Words.{exactly-at}
 use borrow.Author.Needs.{needs}
 use Rattle.text.proofs.delimiters.read_mark.Statement.{statement}
 use Rattle.text.proofs.delimiters.read_mark.Tie as tie
-use Rattle.text.proofs.delimiters.read_mark.Reads as reads
-use Rattle.text.proofs.delimiters.read_mark.Lts as lts
-use Rattle.text.proofs.classes.past.Reads as past-reads
-use Rattle.text.proofs.delimiters.is_word.Reads as is-word-reads
 
--- src/delimiters.rt:18:9
 past-requires : tie.Need-past-requires
 past-requires c κs = search needs
 
--- src/delimiters.rt:19:16
 slice-aggregate-is-word : tie.Need-slice-aggregate-is-word
 slice-aggregate-is-word c = search needs
 
--- src/delimiters.rt:19:8
 is-word-requires : tie.Need-is-word-requires
 is-word-requires c κs = search needs
 
--- src/delimiters.rt:20:9
 returns : tie.Need-returns
-returns c = ?
+unfolding markOf
+returns c =
+    let a = c .before .before .before in
+    let line = a .before .before .args .line .now in
+    simp (exactly-at BEGINDATA line _ (a .past .ensures) ∙ sym (c .before .is-word .ensures), c .if1 .taken)
 
--- src/delimiters.rt:22:16
 slice-aggregate-is-word-2 : tie.Need-slice-aggregate-is-word-2
 slice-aggregate-is-word-2 c = search needs
 
--- src/delimiters.rt:22:8
 is-word-requires-2 : tie.Need-is-word-requires-2
 is-word-requires-2 c κs = search needs
 
--- src/delimiters.rt:23:9
 returns-2 : tie.Need-returns-2
-returns-2 c = ?
+unfolding markOf
+returns-2 c =
+    let a = c .before .before .before .before .before .before in
+    let line = a .before .before .args .line .now in
+    simp (exactly-at BEGINDATA line _ (a .past .ensures) ∙ sym (c .before .before .before .before .is-word .ensures), c .before .before .before .if1 .left, exactly-at BEGINTEXT line _ (a .past .ensures) ∙ sym (c .before .is-word2 .ensures), c .if2 .taken)
 
--- src/delimiters.rt:15:1
 returns-3 : tie.Need-returns-3
-returns-3 c = ?
+unfolding markOf
+returns-3 c =
+    let a = c .before .before .before .before .before .before in
+    let line = a .before .before .args .line .now in
+    simp (exactly-at BEGINDATA line _ (a .past .ensures) ∙ sym (c .before .before .before .before .is-word .ensures), c .before .before .before .if1 .left, exactly-at BEGINTEXT line _ (a .past .ensures) ∙ sym (c .before .is-word2 .ensures), c .if2 .left)
 
 pub read-mark-spec : {M : Type 1} → statement M
 read-mark-spec =

@@ -1,26 +1,24 @@
+-- `read_head` meets its contract: each way out is one case of `head`. Assumes nothing.
+use mathlib.Core.Path.{sym}
 use borrow.Author.Needs.{needs}
+use borrow.Author.Tests.{lt-ltb, le-ltb}
+use Rattle.text.specs.Statements.{head}
 use Rattle.text.proofs.statements.read_head.Statement.{statement}
 use Rattle.text.proofs.statements.read_head.Tie as tie
-use Rattle.text.proofs.statements.read_head.Reads as reads
-use Rattle.text.proofs.statements.read_head.Lts as lts
-use Rattle.text.proofs.classes.past.Reads as past-reads
-use Rattle.text.proofs.statements.read_name.Reads as read-name-reads
 
--- src/statements.rt:28:9
 past-requires : tie.Need-past-requires
 past-requires c κs = search needs
 
--- src/statements.rt:30:9
 read-name-requires : tie.Need-read-name-requires
 read-name-requires c κs = search needs
 
--- src/statements.rt:30:9
 returns : tie.Need-returns
-returns c = ?
+unfolding head
+returns c = simp (sym (c .before .before .past .ensures), lt-ltb _ _ (c .before .if1 .taken)) (c .read-name .ensures)
 
--- src/statements.rt:25:1
 returns-2 : tie.Need-returns-2
-returns-2 c = ?
+unfolding head
+returns-2 c = simp (sym (c .before .past .ensures), le-ltb _ _ (c .if1 .left))
 
 pub read-head-spec : {M : Type 1} → statement M
 read-head-spec = tie.close (tie.spec past-requires read-name-requires returns returns-2)

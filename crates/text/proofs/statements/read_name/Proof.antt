@@ -1,38 +1,36 @@
+-- `read_name` meets its contract: each way out is one case of `named`. Assumes nothing.
+use native.Mathlib.Omega.{arith}
+use mathlib.Core.Path.{sym}
 use borrow.Author.Needs.{needs}
+use borrow.Author.Tests.{le-leb, lt-leb}
+use Rattle.plain.proofs.Places.{past-after}
+use Rattle.text.specs.Classes.{nameByte}
+use Rattle.text.specs.Statements.{NAME}
 use Rattle.text.proofs.statements.read_name.Statement.{statement}
 use Rattle.text.proofs.statements.read_name.Tie as tie
-use Rattle.text.proofs.statements.read_name.Reads as reads
-use Rattle.text.proofs.statements.read_name.Lts as lts
-use Rattle.text.proofs.classes.past.Reads as past-reads
-use Rattle.text.proofs.statements.read_operator.Reads as read-operator-reads
 
--- src/statements.rt:39:9
 past-requires : tie.Need-past-requires
 past-requires c κs = search needs
 
--- src/statements.rt:40:16
 sub-long : tie.Need-sub-long
-sub-long c = ?
+sub-long c =
+    let a = c .before .before .args in
+    omega (arith, c .past .ensures, past-after nameByte (a .line .now) (a .start))
 
--- src/statements.rt:42:9
 returns : tie.Need-returns
-returns c = ?
+returns c = simp (sym (c .before .past .ensures), lt-leb 1 _ (c .if1 .taken))
 
--- src/statements.rt:45:9
 returns-2 : tie.Need-returns-2
-returns-2 c = ?
+returns-2 c = simp (sym (c .before .before .past .ensures), le-leb 1 _ (c .before .if1 .left), lt-leb _ NAME (c .if2 .taken))
 
--- src/statements.rt:47:37
 past-requires-2 : tie.Need-past-requires-2
 past-requires-2 c κs = search needs
 
--- src/statements.rt:47:5
 read-operator-requires : tie.Need-read-operator-requires
 read-operator-requires c κs = search needs
 
--- src/statements.rt:36:1
 returns-3 : tie.Need-returns-3
-returns-3 c = ?
+returns-3 c = simp (sym (c .before .before .before .before .past .ensures), le-leb 1 _ (c .before .before .before .if1 .left), le-leb _ NAME (c .before .before .if2 .left), sym (c .before .past2 .ensures)) (c .read-operator .ensures)
 
 pub read-name-spec : {M : Type 1} → statement M
 read-name-spec =

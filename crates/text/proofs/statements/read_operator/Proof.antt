@@ -1,58 +1,58 @@
+-- `read_operator` meets its contract: each way out is one case of `operated`. Assumes nothing.
+use Prim.Native.Nat.{_+_}
+use native.Mathlib.Omega.{arith}
+use mathlib.Core.Path.{sym, _∙_}
 use borrow.Author.Needs.{needs}
+use Rattle.plain.specs.Bytes.{PLUS, EQUALS}
+use Rattle.text.proofs.Standing.{stands-within}
 use Rattle.text.proofs.statements.read_operator.Statement.{statement}
 use Rattle.text.proofs.statements.read_operator.Tie as tie
-use Rattle.text.proofs.statements.read_operator.Reads as reads
-use Rattle.text.proofs.statements.read_operator.Lts as lts
-use Rattle.text.proofs.classes.past.Reads as past-reads
-use Rattle.text.proofs.classes.stands.Reads as stands-reads
 
--- src/statements.rt:54:8
 stands-requires : tie.Need-stands-requires
 stands-requires c κs = search needs
 
--- src/statements.rt:59:47
 add-past : tie.Need-add-past
-add-past c = ?
+add-past c =
+    let a = c .before .before .before .args in
+    omega (arith, stands-within EQUALS (a .line .now) (a .at) _ (omega arith) (c .before .stands .ensures) (c .if1 .taken))
 
--- src/statements.rt:59:13
 past-requires : tie.Need-past-requires
 past-requires c κs = search needs
 
--- src/statements.rt:55:9
 returns : tie.Need-returns
-returns c = ?
+returns c = simp (sym (c .before .before .stands .ensures), c .before .if1 .taken, c .past .ensures)
 
--- src/statements.rt:62:8
 stands-requires-2 : tie.Need-stands-requires-2
 stands-requires-2 c κs = search needs
 
--- src/statements.rt:63:40
 add-stands : tie.Need-add-stands
-add-stands c = ?
+add-stands c =
+    let a = c .before .before .before .before .before .args in
+    omega (arith, stands-within PLUS (a .line .now) (a .at) _ (omega arith) (c .before .stands2 .ensures) (c .if2 .taken))
 
--- src/statements.rt:63:12
 stands-requires-3 : tie.Need-stands-requires-3
 stands-requires-3 c κs = search needs
 
--- src/statements.rt:68:51
 add-past-2 : tie.Need-add-past-2
-add-past-2 c = ?
+add-past-2 c =
+    let a = c .before .before .before .before .before .before .before .args in
+    omega (arith, stands-within EQUALS (a .line .now) (a .at + 1) _ (omega arith) (c .before .stands3 .ensures) (c .if3 .taken))
 
--- src/statements.rt:68:17
 past-requires-2 : tie.Need-past-requires-2
 past-requires-2 c κs = search needs
 
--- src/statements.rt:64:13
 returns-2 : tie.Need-returns-2
-returns-2 c = ?
+returns-2 c =
+    let a = c .before .before .before .before in
+    simp (sym (a .before .before .stands .ensures), a .before .if1 .left, sym (a .stands2 .ensures), c .before .before .before .if2 .taken, sym (c .before .before .stands3 .ensures), c .before .if3 .taken, c .past2 .ensures)
 
--- src/statements.rt:51:1
 returns-3 : tie.Need-returns-3
-returns-3 c = ?
+returns-3 c =
+    let a = c .before .before .before in
+    simp (sym (a .before .before .stands .ensures), a .before .if1 .left, sym (a .stands2 .ensures), c .before .before .if2 .taken, sym (c .before .stands3 .ensures), c .if3 .left)
 
--- src/statements.rt:51:1
 returns-4 : tie.Need-returns-4
-returns-4 c = ?
+returns-4 c = simp (sym (c .before .before .before .stands .ensures), c .before .before .if1 .left, sym (c .before .stands2 .ensures), c .if2 .left)
 
 pub read-operator-spec : {M : Type 1} → statement M
 read-operator-spec =
