@@ -37,6 +37,11 @@ module _ (p : ℕ → Bool) (bs : List ℕ) (i : ℕ) where
   unfolding past
   past-within h = omega (arith, run-length p (drop i bs), length-drop i bs)
 
+  -- no larger than a number that the place and the length are no larger than
+  pub past-most : (n : ℕ) → i ≤ n → length bs ≤ n → past p bs i ≤ n
+  unfolding past
+  past-most n h g = omega (arith, run-length p (drop i bs), length-drop i bs)
+
 -- the run is what stands before its end
 pub take-run : (p : ℕ → Bool) (bs : List ℕ) → take (length (run p bs)) bs ≡ run p bs
 take-run p [] = refl

@@ -2,3 +2,5 @@
 pub mod Masks
 pub mod Words
 pub mod Standing
+pub mod Items
+pub mod Lists

@@ -1,47 +1,45 @@
+-- `next_item` meets its contract: each way out is one case of `item`. Assumes nothing.
+use mathlib.Core.Path.{sym}
 use borrow.Author.Needs.{needs}
+use borrow.Author.Tests.{lt-ltb, le-ltb}
+use Rattle.text.specs.Values.{item}
 use Rattle.text.proofs.values.next_item.Statement.{statement}
 use Rattle.text.proofs.values.next_item.Tie as tie
-use Rattle.text.proofs.values.next_item.Reads as reads
-use Rattle.text.proofs.values.next_item.Lts as lts
-use Rattle.text.proofs.classes.past.Reads as past-reads
-use Rattle.text.proofs.classes.stands.Reads as stands-reads
-use Rattle.text.proofs.values.read_value.Reads as read-value-reads
 
--- src/values.rt:65:9
 past-requires : tie.Need-past-requires
 past-requires c κs = search needs
 
--- src/values.rt:67:9
 returns : tie.Need-returns
-returns c = ?
+unfolding item
+returns c = simp (sym (c .before .past .ensures), le-ltb _ _ (c .if1 .taken))
 
--- src/values.rt:69:8
 stands-requires : tie.Need-stands-requires
 stands-requires c κs = search needs
 
--- src/values.rt:70:9
 returns-2 : tie.Need-returns-2
-returns-2 c = ?
+unfolding item
+returns-2 c = simp (sym (c .before .before .before .past .ensures), lt-ltb _ _ (c .before .before .if1 .left), sym (c .before .stands .ensures), c .if2 .taken)
 
--- src/values.rt:72:9
 read-value-requires : tie.Need-read-value-requires
 read-value-requires c κs = search needs
 
--- src/values.rt:74:22
 enum-known-word : tie.Need-enum-known-word
 enum-known-word c = search needs
 
--- src/values.rt:75:21
 enum-known-word-2 : tie.Need-enum-known-word-2
 enum-known-word-2 c = search needs
 
--- src/values.rt:62:1
 returns-3 : tie.Need-returns-3
-returns-3 c = ?
+unfolding item
+returns-3 c =
+    let a = c .before .before .before .before in
+    simp (sym (a .before .before .before .past .ensures), lt-ltb _ _ (a .before .before .if1 .left), sym (a .before .stands .ensures), a .if2 .left, sym (c .before .before .before .read-value .ensures), c .before .word .given .1)
 
--- src/values.rt:62:1
 returns-4 : tie.Need-returns-4
-returns-4 c = ?
+unfolding item
+returns-4 c =
+    let a = c .before .before .before .before in
+    simp (sym (a .before .before .before .past .ensures), lt-ltb _ _ (a .before .before .if1 .left), sym (a .before .stands .ensures), a .if2 .left, sym (c .before .before .before .read-value .ensures), c .before .word2 .given .1)
 
 pub next-item-spec : {M : Type 1} → statement M
 next-item-spec =

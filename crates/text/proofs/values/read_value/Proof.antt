@@ -1,46 +1,49 @@
+-- `read_value` meets its contract: the run is what `valueAt` reads, and its length leads to its end. Assumes nothing.
+use native.Mathlib.Omega.{arith}
+use Prim.Native.Nat.{_-_, _^_}
+use mathlib.Core.Path.{_≡_, sym, ap}
+use lib.ListN.{length, drop}
 use borrow.Author.Needs.{needs}
+use Rattle.plain.specs.Runs.{run, past}
+use Rattle.plain.proofs.Places.{past-most}
+use Rattle.text.specs.Classes.{valueByte}
+use Rattle.text.specs.Values.{valueAt}
 use Rattle.text.proofs.values.read_value.Statement.{statement}
 use Rattle.text.proofs.values.read_value.Tie as tie
-use Rattle.text.proofs.values.read_value.Reads as reads
-use Rattle.text.proofs.values.read_value.Lts as lts
-use Rattle.decimal.proofs.read.Reads as read-reads
-use Rattle.text.proofs.classes.run.Reads as run-reads
 
--- src/values.rt:52:9
 run-requires : tie.Need-run-requires
 run-requires c κs = search needs
 
--- src/values.rt:53:9
 read-requires : tie.Need-read-requires
 read-requires c κs = search needs
 
--- src/values.rt:55:25
 enum-known-reading : tie.Need-enum-known-reading
 enum-known-reading c = search needs
 
--- src/values.rt:55:47
 add-t9 : tie.Need-add-t9
-add-t9 c = ?
+unfolding past
+add-t9 c =
+    let a = c .before .before .before .before .before .before .args in
+    let n : length (c .before .before .before .before .run .result .now) ≡ length (run valueByte (drop (a .at) (a .line .now))) = ap length (c .before .before .before .before .run .ensures) in
+    omega (arith, past-most valueByte (a .line .now) (a .at) (2 ^ 64 - 1) (omega arith) (omega arith))
 
--- src/values.rt:56:41
 enum-told : tie.Need-enum-told
 enum-told c = search needs
 
--- src/values.rt:57:46
 enum-told-2 : tie.Need-enum-told-2
 enum-told-2 c = search needs
 
--- src/values.rt:49:1
 returns : tie.Need-returns
-returns c = ?
+unfolding valueAt past
+returns c = simp (sym (c .before .before .before .before .run .ensures), sym (c .before .before .before .read .ensures), c .before .reading .given .1)
 
--- src/values.rt:49:1
 returns-2 : tie.Need-returns-2
-returns-2 c = ?
+unfolding valueAt past
+returns-2 c = simp (sym (c .before .before .before .run .ensures), sym (c .before .before .read .ensures), c .enum-told .given .1)
 
--- src/values.rt:49:1
 returns-3 : tie.Need-returns-3
-returns-3 c = ?
+unfolding valueAt past
+returns-3 c = simp (sym (c .before .before .before .run .ensures), sym (c .before .before .read .ensures), c .enum-told2 .given .1)
 
 pub read-value-spec : {M : Type 1} → statement M
 read-value-spec =

@@ -1,21 +1,21 @@
+-- `rest` meets its contract: either way out is one case of `rest`. Assumes nothing.
+use mathlib.Core.Path.{sym}
 use borrow.Author.Needs.{needs}
+use borrow.Author.Tests.{lt-ltb, le-ltb}
+use Rattle.text.specs.Values.{rest}
 use Rattle.text.proofs.values.rest.Statement.{statement}
 use Rattle.text.proofs.values.rest.Tie as tie
-use Rattle.text.proofs.values.rest.Reads as reads
-use Rattle.text.proofs.values.rest.Lts as lts
-use Rattle.text.proofs.classes.past.Reads as past-reads
 
--- src/values.rt:173:9
 past-requires : tie.Need-past-requires
 past-requires c κs = search needs
 
--- src/values.rt:175:9
 returns : tie.Need-returns
-returns c = ?
+unfolding rest
+returns c = λ xs e. simp (sym (c .before .past .ensures), lt-ltb _ _ (c .if1 .taken))
 
--- src/values.rt:170:1
 returns-2 : tie.Need-returns-2
-returns-2 c = ?
+unfolding rest
+returns-2 c = λ xs e. simp (sym (c .before .past .ensures), le-ltb _ _ (c .if1 .left), e)
 
 pub rest-spec : {M : Type 1} → statement M
 rest-spec = tie.close (tie.spec past-requires returns returns-2)

@@ -1,52 +1,52 @@
+-- `value` meets its contract: each way out is one case of `givenAt`. Assumes nothing.
+use native.Mathlib.Omega.{arith}
+use mathlib.Core.Path.{refl, sym}
+use mathlib.Core.List.{[], _∷_}
 use borrow.Author.Needs.{needs}
+use Rattle.plain.specs.Bytes.{OPEN}
+use Rattle.text.specs.Values.{givenAt}
+use Rattle.text.proofs.Standing.{stands-within}
 use Rattle.text.proofs.values.value.Statement.{statement}
 use Rattle.text.proofs.values.value.Tie as tie
-use Rattle.text.proofs.values.value.Reads as reads
-use Rattle.text.proofs.values.value.Lts as lts
-use Rattle.text.proofs.classes.stands.Reads as stands-reads
-use Rattle.text.proofs.values.list.Reads as list-reads
-use Rattle.text.proofs.values.read_value.Reads as read-value-reads
-use Rattle.text.proofs.values.rest.Reads as rest-reads
 
--- src/values.rt:159:8
 stands-requires : tie.Need-stands-requires
 stands-requires c κs = search needs
 
--- src/values.rt:160:34
 add-list : tie.Need-add-list
-add-list c = ?
+add-list c =
+    let a = c .before .before .before .args in
+    omega (arith, stands-within OPEN (a .line .now) (a .at) _ (omega arith) (c .before .stands .ensures) (c .if1 .taken))
 
--- src/values.rt:160:9
 list-requires : tie.Need-list-requires
 list-requires c κs = search needs
 
--- src/values.rt:160:9
 returns : tie.Need-returns
-returns c = ?
+unfolding givenAt
+returns c = simp (sym (c .before .before .stands .ensures), c .before .if1 .taken) (c .list .ensures)
 
--- src/values.rt:162:9
 read-value-requires : tie.Need-read-value-requires
 read-value-requires c κs = search needs
 
--- src/values.rt:164:25
 enum-known-word : tie.Need-enum-known-word
 enum-known-word c = search needs
 
--- src/values.rt:164:33
 rest-requires : tie.Need-rest-requires
 rest-requires c κs = search needs
 
--- src/values.rt:165:21
 enum-known-word-2 : tie.Need-enum-known-word-2
 enum-known-word-2 c = search needs
 
--- src/values.rt:156:1
 returns-2 : tie.Need-returns-2
-returns-2 c = ?
+unfolding givenAt
+returns-2 c =
+    let a = c .before .before .before .before .before in
+    simp (sym (a .before .stands .ensures), a .if1 .left, sym (c .before .before .before .before .read-value .ensures), c .before .before .word .given .1) (c .rest .ensures (c .before .before .word .given .0 .0 ∷ []) refl)
 
--- src/values.rt:156:1
 returns-3 : tie.Need-returns-3
-returns-3 c = ?
+unfolding givenAt
+returns-3 c =
+    let a = c .before .before .before .before in
+    simp (sym (a .before .stands .ensures), a .if1 .left, sym (c .before .before .before .read-value .ensures), c .before .word2 .given .1)
 
 pub value-spec : {M : Type 1} → statement M
 value-spec =
