@@ -4,3 +4,4 @@ pub mod Words
 pub mod Standing
 pub mod Items
 pub mod Lists
+pub mod Events

@@ -1,55 +1,47 @@
+-- `line_step` meets its contract: each way out is one case of `answered`. Assumes nothing.
+use mathlib.Core.Path.{sym}
 use borrow.Author.Needs.{needs}
+use borrow.Author.Tests.{lt-ltb, le-ltb}
+use Rattle.text.specs.Line.{answered}
 use Rattle.text.proofs.line.line_step.Statement.{statement}
 use Rattle.text.proofs.line.line_step.Tie as tie
-use Rattle.text.proofs.line.line_step.Reads as reads
-use Rattle.text.proofs.line.line_step.Lts as lts
-use Rattle.text.proofs.delimiters.read_mark.Reads as read-mark-reads
-use Rattle.text.proofs.line.open_section.Reads as open-section-reads
-use Rattle.text.proofs.line.plain.Reads as plain-reads
 
--- src/line.rt:36:9
 returns : tie.Need-returns
-returns c = ?
+unfolding answered
+returns c = simp (lt-ltb _ _ (c .if1 .taken))
 
--- src/line.rt:38:9
 read-mark-requires : tie.Need-read-mark-requires
 read-mark-requires c κs = search needs
 
--- src/line.rt:40:44
 enum-told : tie.Need-enum-told
 enum-told c = search needs
 
--- src/line.rt:40:23
 open-section-requires : tie.Need-open-section-requires
 open-section-requires c κs = search needs
 
--- src/line.rt:41:44
 enum-told-2 : tie.Need-enum-told-2
 enum-told-2 c = search needs
 
--- src/line.rt:41:23
 open-section-requires-2 : tie.Need-open-section-requires-2
 open-section-requires-2 c κs = search needs
 
--- src/line.rt:42:24
 enum-told-3 : tie.Need-enum-told-3
 enum-told-3 c = search needs
 
--- src/line.rt:42:24
 plain-requires : tie.Need-plain-requires
 plain-requires c κs = search needs
 
--- src/line.rt:32:1
 returns-2 : tie.Need-returns-2
-returns-2 c = ?
+unfolding answered
+returns-2 c = simp (le-ltb _ _ (c .before .before .before .before .if1 .left), sym (c .before .before .before .read-mark .ensures), c .before .enum-told .given .1) (c .open-section .ensures)
 
--- src/line.rt:32:1
 returns-3 : tie.Need-returns-3
-returns-3 c = ?
+unfolding answered
+returns-3 c = simp (le-ltb _ _ (c .before .before .before .before .if1 .left), sym (c .before .before .before .read-mark .ensures), c .before .enum-told2 .given .1) (c .open-section2 .ensures)
 
--- src/line.rt:32:1
 returns-4 : tie.Need-returns-4
-returns-4 c = ?
+unfolding answered
+returns-4 c = simp (le-ltb _ _ (c .before .before .before .before .if1 .left), sym (c .before .before .before .read-mark .ensures), c .before .enum-told3 .given .1) (c .plain .ensures)
 
 pub line-step-spec : {M : Type 1} → statement M
 line-step-spec =

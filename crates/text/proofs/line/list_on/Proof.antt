@@ -1,31 +1,29 @@
+-- `list_on` meets its contract: a byte that is not fair comes first, and then the list's part in the line. Assumes nothing.
+use mathlib.Core.Path.{sym, ap, _∙_}
 use borrow.Author.Needs.{needs}
+use borrow.Author.Tests.{lt-ltb, le-ltb}
+use Rattle.text.specs.Line.{answerOf}
+use Rattle.text.specs.Values.{listed}
+use Rattle.text.proofs.Events.{counted-list}
 use Rattle.text.proofs.line.list_on.Statement.{statement}
 use Rattle.text.proofs.line.list_on.Tie as tie
-use Rattle.text.proofs.line.list_on.Reads as reads
-use Rattle.text.proofs.line.list_on.Lts as lts
-use Rattle.text.proofs.classes.past.Reads as past-reads
-use Rattle.text.proofs.line.answer_of.Reads as answer-of-reads
-use Rattle.text.proofs.values.list.Reads as list-reads
 
--- src/line.rt:90:9
 past-requires : tie.Need-past-requires
 past-requires c κs = search needs
 
--- src/line.rt:92:9
 returns : tie.Need-returns
-returns c = ?
+returns c = simp (sym (c .before .past .ensures), lt-ltb _ _ (c .if1 .taken))
 
--- src/line.rt:94:18
 list-requires : tie.Need-list-requires
 list-requires c κs = search needs
 
--- src/line.rt:94:5
 answer-of-requires : tie.Need-answer-of-requires
 answer-of-requires c κs = search needs
 
--- src/line.rt:87:1
 returns-2 : tie.Need-returns-2
-returns-2 c = ?
+returns-2 c =
+    let a = c .before .before .before .before .before .args in
+    simp (sym (c .before .before .before .past .ensures), le-ltb _ _ (c .before .before .if1 .left)) (c .answer-of .ensures ∙ ap (answerOf 0) (c .before .list .ensures) ∙ counted-list (listed (a .filled) (a .line .now) 0))
 
 pub list-on-spec : {M : Type 1} → statement M
 list-on-spec =

@@ -1,40 +1,31 @@
+-- `open_section` meets its contract: each way out is one case of `section`. Assumes nothing.
 use borrow.Author.Needs.{needs}
 use Rattle.text.proofs.line.open_section.Statement.{statement}
 use Rattle.text.proofs.line.open_section.Tie as tie
-use Rattle.text.proofs.line.open_section.Reads as reads
-use Rattle.text.proofs.line.open_section.Lts as lts
 
--- src/line.rt:51:25
 enum-told : tie.Need-enum-told
 enum-told c = search needs
 
--- src/line.rt:52:25
 enum-told-2 : tie.Need-enum-told-2
 enum-told-2 c = search needs
 
--- src/line.rt:53:39
 enum-told-3 : tie.Need-enum-told-3
 enum-told-3 c = search needs
 
--- src/line.rt:54:41
 enum-told-4 : tie.Need-enum-told-4
 enum-told-4 c = search needs
 
--- src/line.rt:47:1
 returns : tie.Need-returns
-returns c = ?
+returns c = simp (c .enum-told .given .1)
 
--- src/line.rt:47:1
 returns-2 : tie.Need-returns-2
-returns-2 c = ?
+returns-2 c = simp (c .enum-told2 .given .1)
 
--- src/line.rt:47:1
 returns-3 : tie.Need-returns-3
-returns-3 c = ?
+returns-3 c = simp (c .enum-told3 .given .1)
 
--- src/line.rt:47:1
 returns-4 : tie.Need-returns-4
-returns-4 c = ?
+returns-4 c = simp (c .enum-told4 .given .1)
 
 pub open-section-spec : {M : Type 1} → statement M
 open-section-spec =

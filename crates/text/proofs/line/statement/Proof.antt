@@ -1,56 +1,51 @@
+-- `statement` meets its contract: each way out is one case of `fairly` or `stated`. Assumes nothing.
+use mathlib.Core.Path.{sym, ap, _∙_}
 use borrow.Author.Needs.{needs}
+use borrow.Author.Tests.{lt-ltb, le-ltb}
+use Rattle.text.specs.Line.{answerOf}
+use Rattle.text.proofs.Events.{counted-statement}
 use Rattle.text.proofs.line.statement.Statement.{statement}
 use Rattle.text.proofs.line.statement.Tie as tie
-use Rattle.text.proofs.line.statement.Reads as reads
-use Rattle.text.proofs.line.statement.Lts as lts
-use Rattle.text.proofs.classes.past.Reads as past-reads
-use Rattle.text.proofs.line.answer_of.Reads as answer-of-reads
-use Rattle.text.proofs.statements.read_head.Reads as read-head-reads
-use Rattle.text.proofs.values.value.Reads as value-reads
 
--- src/line.rt:74:9
 past-requires : tie.Need-past-requires
 past-requires c κs = search needs
 
--- src/line.rt:76:9
 returns : tie.Need-returns
-returns c = ?
+returns c = simp (sym (c .before .past .ensures), lt-ltb _ _ (c .if1 .taken))
 
--- src/line.rt:78:9
 read-head-requires : tie.Need-read-head-requires
 read-head-requires c κs = search needs
 
--- src/line.rt:80:37
 enum-told : tie.Need-enum-told
 enum-told c = search needs
 
--- src/line.rt:81:30
 enum-known-head : tie.Need-enum-known-head
 enum-known-head c = search needs
 
--- src/line.rt:81:50
 value-requires : tie.Need-value-requires
 value-requires c κs = search needs
 
--- src/line.rt:81:37
 answer-of-requires : tie.Need-answer-of-requires
 answer-of-requires c κs = search needs
 
--- src/line.rt:82:21
 enum-known-head-2 : tie.Need-enum-known-head-2
 enum-known-head-2 c = search needs
 
--- src/line.rt:71:1
 returns-2 : tie.Need-returns-2
-returns-2 c = ?
+returns-2 c =
+    let a = c .before .before .before in
+    simp (sym (a .before .past .ensures), le-ltb _ _ (a .if1 .left), sym (c .before .before .read-head .ensures), c .enum-told .given .1)
 
--- src/line.rt:71:1
 returns-3 : tie.Need-returns-3
-returns-3 c = ?
+returns-3 c =
+    let a = c .before .before .before .before .before .before in
+    let b = a .before .before .before .args in
+    simp (sym (a .before .past .ensures), le-ltb _ _ (a .if1 .left), sym (c .before .before .before .before .before .read-head .ensures)) (c .answer-of .ensures ∙ ap (answerOf 1) (c .before .value .ensures) ∙ counted-statement (b .line .now) _ _ _ _ _ (c .before .before .before .head .given .1))
 
--- src/line.rt:71:1
 returns-4 : tie.Need-returns-4
-returns-4 c = ?
+returns-4 c =
+    let a = c .before .before .before .before in
+    simp (sym (a .before .past .ensures), le-ltb _ _ (a .if1 .left), sym (c .before .before .before .read-head .ensures), c .before .head2 .given .1)
 
 pub statement-spec : {M : Type 1} → statement M
 statement-spec =
