@@ -5,8 +5,8 @@ use lib.Dec.{eqb}
 use lib.ListN.{length, take, drop, getD}
 use Rattle.plain.specs.Choice.{if_then_else_}
 use Rattle.text.specs.Statements.{Statement}
-use Rattle.text.specs.declared.Operator.{Operator}
-use Rattle.text.specs.declared.Operator.the-variants.{Direct, Append}
+use Rattle.text.specs.declared.statements.Operator.{Operator}
+use Rattle.text.specs.declared.statements.Operator.the-variants.{Direct, Append}
 use Rattle.words.specs.Over.{over, part}
 use Rattle.words.specs.Halves.{upper, lower, joined}
 use Rattle.layout.specs.State.{Text, Pool, program, flat, valuesOf, values}

@@ -5,8 +5,8 @@ use mathlib.Core.List.{List, [], _∷_}
 use Rattle.plain.specs.Choice.{if_then_else_}
 use Rattle.plain.specs.Lists.{equal}
 use Rattle.text.specs.Statements.{Statement}
-use Rattle.text.specs.declared.Operator.{Operator}
-use Rattle.text.specs.declared.Operator.the-variants.{Direct, Append}
+use Rattle.text.specs.declared.statements.Operator.{Operator}
+use Rattle.text.specs.declared.statements.Operator.the-variants.{Direct, Append}
 use Rattle.layout.specs.State.{Pool, program, flat}
 
 abbrev pub isDirect : Operator → Bool
