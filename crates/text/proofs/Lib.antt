@@ -5,3 +5,4 @@ pub mod Standing
 pub mod Items
 pub mod Lists
 pub mod Events
+pub mod LineEnds

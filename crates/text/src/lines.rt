@@ -20,14 +20,19 @@ pub fn cut_line(text: &[u8], at: usize) -> Cut
     ensures { λ r. ⌜ Cuts (now (text .entry)) at r ⌝ }
 {
     let end = classes::past(Class::Line, text, at);
-    if end < text.len() && at < end && text[end - 1] == b'\r' {
-        return Cut {
-            end: end - 1,
-            next: end + 1,
-        };
+    let next = end + 1;
+    if end < text.len() {
+        if at < end {
+            if text[end - 1] == b'\r' {
+                return Cut {
+                    end: end - 1,
+                    next: next,
+                };
+            }
+        }
     }
     Cut {
         end: end,
-        next: end + 1,
+        next: next,
     }
 }

@@ -1,43 +1,53 @@
+-- `cut_line` meets its contract: each way out is one way in which a line may end. Assumes nothing.
+use native.Mathlib.Omega.{arith}
 use borrow.Author.Needs.{needs}
+use Rattle.text.proofs.LineEnds.{ends-within, cut-last, cut-empty, cut-CR, cut-LF}
 use Rattle.text.proofs.lines.cut_line.Statement.{statement}
 use Rattle.text.proofs.lines.cut_line.Tie as tie
-use Rattle.text.proofs.lines.cut_line.Reads as reads
-use Rattle.text.proofs.lines.cut_line.Lts as lts
-use Rattle.text.proofs.classes.past.Reads as past-reads
 
--- src/lines.rt:22:9
 past-requires : tie.Need-past-requires
 past-requires c κs = search needs
 
--- src/lines.rt:23:45
-sub-if3 : tie.Need-sub-if3
-sub-if3 c = ?
+add-next : tie.Need-add-next
+add-next c = omega (arith, ends-within _ _ _ (c .before .before .pre) (c .past .ensures))
 
--- src/lines.rt:23:40
+sub-if3 : tie.Need-sub-if3
+sub-if3 c = omega arith
+
 shared-slice-read-if3 : tie.Need-shared-slice-read-if3
 shared-slice-read-if3 c = search needs
 
--- src/lines.rt:25:18
-sub-t12 : tie.Need-sub-t12
-sub-t12 c = ?
+sub-t13 : tie.Need-sub-t13
+sub-t13 c = omega arith
 
--- src/lines.rt:26:19
-add-t13 : tie.Need-add-t13
-add-t13 c = search needs
-
--- src/lines.rt:24:9
 returns : tie.Need-returns
-returns c = ?
+returns c =
+    let a = c .before .before .before .before in
+    cut-CR _ _ _ (a .before .before .pre) (a .past .ensures) (c .before .before .before .if1 .taken) (c .before .before .if2 .taken) (c .if3 .taken)
 
--- src/lines.rt:31:15
-add-t7 : tie.Need-add-t7
-add-t7 c = ?
-
--- src/lines.rt:18:1
 returns-2 : tie.Need-returns-2
-returns-2 c = ?
+returns-2 c =
+    let a = c .before .before .before .before in
+    cut-LF _ _ _ (a .before .before .pre) (a .past .ensures) (c .before .before .before .if1 .taken) (c .before .before .if2 .taken) (c .if3 .left)
+
+returns-3 : tie.Need-returns-3
+returns-3 c =
+    let a = c .before .before in
+    cut-empty _ _ _ (a .before .before .pre) (a .past .ensures) (c .before .if1 .taken) (c .if2 .left)
+
+returns-4 : tie.Need-returns-4
+returns-4 c = cut-last _ _ _ (c .before .before .before .pre) (c .before .past .ensures) (c .if1 .left)
 
 pub cut-line-spec : {M : Type 1} → statement M
 cut-line-spec =
     tie.close
-    (tie.spec past-requires sub-if3 shared-slice-read-if3 sub-t12 add-t13 returns add-t7 returns-2)
+    (tie.spec
+    past-requires
+    add-next
+    sub-if3
+    shared-slice-read-if3
+    sub-t13
+    returns
+    returns-2
+    returns-3
+    returns-4)
