@@ -6,3 +6,5 @@ pub mod Items
 pub mod Lists
 pub mod Events
 pub mod LineEnds
+pub mod Bounds
+pub mod Tallies

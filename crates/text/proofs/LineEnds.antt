@@ -90,7 +90,10 @@ module _ (text : List ℕ) (i e : ℕ) (h : i < length text) (q : e ≡ past lin
   pub cut-last : length text ≤ e → Cuts text i (record { end = e; next = e + 1 })
   cut-last g =
       record {
-        starts = ends-after; ends = omega arith; stays = omega (arith, ends-within); line = at-place ∙ rw (drop-of-length-le text g)
+        starts = ends-after;
+        ends = omega arith;
+        stays = omega (arith, ends-within);
+        line = at-place ∙ rw (drop-of-length-le text g);
       }
 
   module _ (g : e < length text) where
@@ -116,14 +119,18 @@ module _ (text : List ℕ) (i e : ℕ) (h : i < length text) (q : e ≡ past lin
       pub cut-CR : getD text (e - 1) 0 ≡ CR → Cuts text i (record { end = e - 1; next = e + 1 })
       cut-CR x =
           record {
-            starts = omega arith; ends = omega arith; stays = omega (arith, ends-within);
-            line = before-LF ∙ rw (last-is, eq-eqb (getD text (e - 1) 0) CR x)
+            starts = omega arith;
+            ends = omega arith;
+            stays = omega (arith, ends-within);
+            line = before-LF ∙ rw (last-is, eq-eqb (getD text (e - 1) 0) CR x);
           }
 
       -- where another byte does
       pub cut-LF : (getD text (e - 1) 0 ≡ CR → ⊥) → Cuts text i (record { end = e; next = e + 1 })
       cut-LF x =
           record {
-            starts = ends-after; ends = omega arith; stays = omega (arith, ends-within);
-            line = before-LF ∙ rw (last-is, ne-eqb (getD text (e - 1) 0) CR x)
+            starts = ends-after;
+            ends = omega arith;
+            stays = omega (arith, ends-within);
+            line = before-LF ∙ rw (last-is, ne-eqb (getD text (e - 1) 0) CR x);
           }

@@ -1,118 +1,115 @@
+-- `check` meets its contract: the counts of the lines passed and what is left to read make the whole text's answer. Assumes nothing.
+use Prim.Native.Nat.{_+_, _-_}
+use native.Mathlib.Omega.{arith}
+use mathlib.Core.Path.{_∙_}
+use borrow.Author.Needs.{needs}
+use lib.ListN.{length}
+use Rattle.text.proofs.Tallies.{SoFar, at-first, turn, turn-off, end-admits, end-refuses}
 use Rattle.text.proofs.check.Statement.{statement}
 use Rattle.text.proofs.check.Tie as tie
-use Rattle.text.proofs.check.Reads as reads
-use Rattle.text.proofs.check.Lts as lts
-use Rattle.text.proofs.line.line_step.Reads as line-step-reads
-use Rattle.text.proofs.lines.cut_line.Reads as cut-line-reads
-use Rattle.text.proofs.refused.Reads as refused-reads
 
 abbrev Inv-loop : tie.InvT-loop
-Inv-loop text reader₀ at₀ number₀ long₀ statements₀ values₀ reader at number long statements values =
-    ?
+Inv-loop text reader₀ at₀ number₀ long₀ statements₀ values₀ reader at number long statements values = SoFar text reader at number long statements values
 
 abbrev μ-loop : tie.MeasureT-loop
-μ-loop text reader₀ at₀ number₀ long₀ statements₀ values₀ reader at number long statements values =
-    ?
+μ-loop text reader₀ at₀ number₀ long₀ statements₀ values₀ reader at number long statements values = length text + 1 - at
 
--- src/lib.rt:33:5
 loop-holds : tie.Need-loop-holds Inv-loop μ-loop
-loop-holds c = ?
+loop-holds c = at-first _
 
--- src/lib.rt:34:13
 cut-line-requires : tie.Need-cut-line-requires Inv-loop μ-loop
-cut-line-requires c κs = ?
+cut-line-requires c κs = search needs
 
--- src/lib.rt:36:46
 sub-line-step : tie.Need-sub-line-step Inv-loop μ-loop
-sub-line-step c = ?
+sub-line-step c = omega (arith, c .cut-line .ensures .starts)
 
--- src/lib.rt:36:46
 part-line-step-start : tie.Need-part-line-step-start Inv-loop μ-loop
-part-line-step-start c = ?
+part-line-step-start c = omega (arith, c .cut-line .ensures .starts)
 
--- src/lib.rt:36:46
 part-line-step-end : tie.Need-part-line-step-end Inv-loop μ-loop
-part-line-step-end c = ?
+part-line-step-end c = omega (arith, c .cut-line .ensures .ends, c .cut-line .ensures .stays)
 
--- src/lib.rt:36:13
 line-step-requires : tie.Need-line-step-requires Inv-loop μ-loop
-line-step-requires c κs = ?
+line-step-requires c κs = search needs
 
--- src/lib.rt:37:26
 enum-known-answer : tie.Need-enum-known-answer Inv-loop μ-loop
-enum-known-answer c = ?
+enum-known-answer c = search needs
 
--- src/lib.rt:38:36
 enum-told : tie.Need-enum-told Inv-loop μ-loop
-enum-told c = ?
+enum-told c = search needs
 
--- src/lib.rt:38:36
 add-refused : tie.Need-add-refused Inv-loop μ-loop
-add-refused c = ?
+add-refused c =
+    let a = c .before .before .before .before .before .before .loop .inv in
+    omega arith
 
--- src/lib.rt:38:13
 refused-requires : tie.Need-refused-requires Inv-loop μ-loop
-refused-requires c κs = ?
+refused-requires c κs = search needs
 
--- src/lib.rt:38:13
 returns : tie.Need-returns Inv-loop μ-loop
-returns c = ?
+returns c =
+    let a = c .before .before .before .before .before in
+    c .refused .ensures _ _ (c .before .enum-told .given .1) ∙ turn-off _ _ _ (a .cut-line .ensures) _ _ _ _ _ _ (c .before .before .before .line-step .ensures) _ _ (c .before .enum-told .given .1) ∙ a .before .before .loop .inv .left
 
--- src/lib.rt:41:16
 sub-long : tie.Need-sub-long Inv-loop μ-loop
-sub-long c = ?
+sub-long c = omega (arith, c .before .before .before .before .before .cut-line .ensures .starts)
 
--- src/lib.rt:43:9
 add-number : tie.Need-add-number Inv-loop μ-loop
-add-number c = ?
+add-number c = omega (arith, c .before .before .before .before .before .before .before .loop .inv .counts)
 
--- src/lib.rt:44:9
 add-statements : tie.Need-add-statements Inv-loop μ-loop
-add-statements c = ?
+add-statements c =
+    let a = c .before .before .before .before .before in
+    let f = turn _ _ _ _ _ _ _ (a .before .before .loop .inv) _ (a .cut-line .ensures) _ (c .before .before .before .line-step .ensures) _ _ _ (c .before .answer .given .1) in
+    omega (arith, f .opens, f .counts, f .stays)
 
--- src/lib.rt:45:9
 add-values : tie.Need-add-values Inv-loop μ-loop
-add-values c = ?
+add-values c =
+    let a = c .before .before .before .before .before in
+    let f = turn _ _ _ _ _ _ _ (a .before .before .loop .inv) _ (a .cut-line .ensures) _ (c .before .before .before .line-step .ensures) _ _ _ (c .before .answer .given .1) in
+    omega (arith, f .gives, f .stays)
 
--- src/lib.rt:33:5
 loop-less : tie.Need-loop-less Inv-loop μ-loop
-loop-less c = ?
+loop-less c =
+    let a = c .before .before .before .before .before in
+    omega (arith, a .cut-line .ensures .starts, a .cut-line .ensures .ends, a .before .loop-test .taken)
 
--- src/lib.rt:33:5
 loop-again : tie.Need-loop-again Inv-loop μ-loop
-loop-again c = ?
+loop-again c =
+    let a = c .before .before .before .before .before in
+    turn _ _ _ _ _ _ _ (a .before .before .loop .inv) _ (a .cut-line .ensures) _ (c .before .before .before .line-step .ensures) _ _ _ (c .before .answer .given .1)
 
--- src/lib.rt:48:25
 enum-told-2 : tie.Need-enum-told-2 Inv-loop μ-loop
-enum-told-2 c = ?
+enum-told-2 c = search needs
 
--- src/lib.rt:49:25
 enum-told-3 : tie.Need-enum-told-3 Inv-loop μ-loop
-enum-told-3 c = ?
+enum-told-3 c = search needs
 
--- src/lib.rt:50:42
 enum-told-4 : tie.Need-enum-told-4 Inv-loop μ-loop
-enum-told-4 c = ?
+enum-told-4 c = search needs
 
--- src/lib.rt:51:44
 enum-told-5 : tie.Need-enum-told-5 Inv-loop μ-loop
-enum-told-5 c = ?
+enum-told-5 c = search needs
 
--- src/lib.rt:24:1
 returns-2 : tie.Need-returns-2 Inv-loop μ-loop
-returns-2 c = ?
+returns-2 c =
+    let a = c .before .before .before .loop in
+    end-admits _ (a .at) _ (a .number) (a .long) _ _ (c .before .before .loop-test .left) (rw (c .enum-told2 .given .1)) ∙ a .inv .left
 
--- src/lib.rt:24:1
 returns-3 : tie.Need-returns-3 Inv-loop μ-loop
-returns-3 c = ?
+returns-3 c =
+    let a = c .before .before .before .loop in
+    end-admits _ (a .at) _ (a .number) (a .long) _ _ (c .before .before .loop-test .left) (rw (c .enum-told3 .given .1)) ∙ a .inv .left
 
--- src/lib.rt:24:1
 returns-4 : tie.Need-returns-4 Inv-loop μ-loop
-returns-4 c = ?
+returns-4 c =
+    let a = c .before .before .before .loop in
+    end-refuses _ (a .at) _ (a .number) (a .long) _ _ (c .before .before .loop-test .left) (rw (c .enum-told4 .given .1)) ∙ a .inv .left
 
--- src/lib.rt:24:1
 returns-5 : tie.Need-returns-5 Inv-loop μ-loop
-returns-5 c = ?
+returns-5 c =
+    let a = c .before .before .before .loop in
+    end-refuses _ (a .at) _ (a .number) (a .long) _ _ (c .before .before .loop-test .left) (rw (c .enum-told5 .given .1)) ∙ a .inv .left
 
 pub check-spec : {M : Type 1} → statement M
 check-spec =
