@@ -1,5 +1,6 @@
 -- Laws about the words of the definitions, for the proofs of the crates above.
 pub mod Ranges
+pub mod Tests
 pub mod Runs
 pub mod Tables
 pub mod Places
