@@ -18,6 +18,10 @@ pub alike-digit : (x y d : ℕ) → Alike x y → Alike (x * 10 + d) (y * 10 + d
 alike-digit x y d (inl e) = inl (ap (λ (n : ℕ). n * 10 + d) e)
 alike-digit x y d (inr h) = inr (omega arith)
 
+pub alike-add : (x y d : ℕ) → Alike x y → Alike (x + d) (y + d)
+alike-add x y d (inl e) = inl (ap (λ (n : ℕ). n + d) e)
+alike-add x y d (inr h) = inr (omega arith)
+
 pub alike-whole : (x y : ℕ) (bs : List ℕ) → Alike x y → Alike (wholeFrom x bs) (wholeFrom y bs)
 alike-whole x y [] a = a
 alike-whole x y (b ∷ bs) a = alike-whole (x * 10 + (b - ZERO)) (y * 10 + (b - ZERO)) bs (alike-digit x y (b - ZERO) a)

@@ -1,37 +1,52 @@
 // What follows the digits: nothing, or a letter, an optional sign and at least one digit.
-use super::Reading;
-use super::class::Unscaled;
-use super::class::evaluate;
 use super::digits::read_digits;
 use super::sign::read_sign;
 ghost use mathlib.Core.Path.{_≡_};
-ghost use Prim.Native.Nat.{_≤_};
-ghost use lib.ListN.{length, drop};
-ghost use Rattle.decimal.specs.Form.{letter, scaled};
-ghost use Rattle.decimal.specs.Class.{valued};
+ghost use Prim.Native.Nat.{_+_, _≤_};
+ghost use lib.ListN.{length};
+ghost use Rattle.decimal.specs.Form.{letter};
+ghost use Rattle.decimal.specs.Parts.{Alike, ExponentAt};
 
-// What n is worth with the exponent that stands at a place.
-pub(crate) fn scale_by_exponent(value: &[u8], at: usize, n: Unscaled) -> Reading
-    requires { ⌜ n .places ≤ length (now value) ⌝ }
-    ensures { λ r. ⌜ r ≡ valued (scaled (n .minus) (n .w) (n .places) (drop at (now (value .entry)))) ⌝ }
+const MOST: u64 = 18446744073709551615;
+
+// Whether the form is right, and k, the exponent less the digits after the point, as `up` less `down`.
+pub(crate) struct Exponent {
+    pub(crate) right: bool,
+    pub(crate) up: u64,
+    pub(crate) down: u64,
+}
+
+// The exponent at a place, which ends the value, after so many digits behind the point.
+pub(crate) fn read_exponent(value: &[u8], at: usize, places: usize) -> Exponent
+    requires { ⌜ places ≤ length (now value) ⌝ }
+    ensures { λ r. ⌜ ExponentAt (now (value .entry)) at places r ⌝ }
 {
+    let down = places as u64;
     if at >= value.len() {
-        return evaluate(n, false, 0);
+        return Exponent {
+            right: true,
+            up: 0,
+            down,
+        };
     }
-    if !is_letter(value[at]) {
-        return Reading::BadForm;
-    }
+    let marked = is_letter(value[at]);
     let sign = read_sign(value, at + 1);
     let start = sign.end;
     let power = read_digits(value, start, 0);
     let end = power.end;
-    if end == start {
-        return Reading::BadForm;
+    let right = marked & (end > start) & (end >= value.len());
+    if sign.minus {
+        return Exponent {
+            right,
+            up: 0,
+            down: add(power.number, down),
+        };
     }
-    if end < value.len() {
-        return Reading::BadForm;
+    Exponent {
+        right,
+        up: power.number,
+        down,
     }
-    evaluate(n, sign.minus, power.number)
 }
 
 // E, e, D or d.
@@ -39,4 +54,11 @@ fn is_letter(b: u8) -> bool
     ensures { λ r. ⌜ r ≡ letter b ⌝ }
 {
     (b == b'E') | (b == b'e') | (b == b'D') | (b == b'd')
+}
+
+// The sum, or the largest number where the sum is past it.
+fn add(a: u64, b: u64) -> u64
+    ensures { λ r. ⌜ Alike r (a + b) ⌝ }
+{
+    if a <= MOST - b { a + b } else { MOST }
 }

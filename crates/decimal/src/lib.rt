@@ -1,15 +1,15 @@
 // A value's bytes read to a double: document 01, "Text rules", the two points on a value.
-// The code follows the definition part by part; what a run of bytes writes may be of any length.
 mod class;
 mod digits;
 mod exponent;
 mod power;
 mod sign;
+mod whole;
 
-use class::Unscaled;
-use digits::read_digits;
-use exponent::scale_by_exponent;
+use class::scale;
+use exponent::read_exponent;
 use sign::read_sign;
+use whole::read_whole;
 ghost use mathlib.Core.Path.{_≡_};
 ghost use Rattle.decimal.specs.Class.{reading};
 
@@ -25,37 +25,12 @@ pub fn read(value: &[u8]) -> Reading
     ensures { λ r. ⌜ r ≡ reading (now (value .entry)) ⌝ }
 {
     let sign = read_sign(value, 0);
-    let start = sign.end;
-    let before = read_digits(value, start, 0);
-    let point = before.end;
-    if point < value.len() {
-        if value[point] == b'.' {
-            let after = read_digits(value, point + 1, before.number);
-            let end = after.end;
-            if end == start + 1 {
-                return Reading::BadForm;
-            }
-            return scale_by_exponent(
-                value,
-                end,
-                Unscaled {
-                    minus: sign.minus,
-                    w: after.number,
-                    places: end - (point + 1),
-                },
-            );
+    let whole = read_whole(value, sign.end);
+    let exponent = read_exponent(value, whole.end, whole.places);
+    if whole.some {
+        if exponent.right {
+            return scale(sign.minus, whole.w, exponent.up, exponent.down);
         }
     }
-    if point == start {
-        return Reading::BadForm;
-    }
-    scale_by_exponent(
-        value,
-        point,
-        Unscaled {
-            minus: sign.minus,
-            w: before.number,
-            places: 0,
-        },
-    )
+    Reading::BadForm
 }

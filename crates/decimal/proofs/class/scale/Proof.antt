@@ -8,7 +8,6 @@ use borrow.Author.Needs.{needs}
 use Rattle.plain.specs.Doubles.{_⊗_, _⊘_}
 use Rattle.decimal.specs.Class.{double, signed}
 use Rattle.decimal.specs.declared.Reading.the-variants.{Number}
-use Rattle.decimal.proofs.Exponents.{size-up, size-down}
 use Rattle.decimal.proofs.Valued.{valued-large, valued-steep, valued-over, valued-times}
 use Rattle.decimal.proofs.class.scale.Statement.{statement}
 use Rattle.decimal.proofs.class.scale.Tie as tie
@@ -16,64 +15,54 @@ use Rattle.decimal.proofs.class.scale.Tie as tie
 returns : tie.Need-returns
 returns c = let a = c .before .args in sym (valued-large (a .minus) (a .w) (pos (a .up) -ℤ pos (a .down)) (c .if1 .taken))
 
-sub-k : tie.Need-sub-k
-sub-k c = search needs
+distance-requires : tie.Need-distance-requires
+distance-requires c κs = search needs
 
 returns-2 : tie.Need-returns-2
-returns-2 c =
-    let a = c .before .before .before .args in
-    sym (valued-steep (a .minus) (a .w) (pos (a .up) -ℤ pos (a .down)) (omega (arith, size-down (a .up) (a .down) (c .before .if2 .taken))))
-
-int-to-float-negate-for : tie.Need-int-to-float-negate-for
-unfolding inFloat
-int-to-float-negate-for c = le→leb _ _ (c .before .before .before .if1 .left)
+returns-2 c = let a = c .before .before .before .args in sym (valued-steep (a .minus) (a .w) (a .up) (a .down) (omega (arith, c .before .distance .ensures)))
 
 power-requires : tie.Need-power-requires
 power-requires c κs = search needs
+
+int-to-float-negate-for : tie.Need-int-to-float-negate-for
+unfolding inFloat
+int-to-float-negate-for c = le→leb _ _ (c .before .before .before .before .before .if1 .left)
 
 negate-for-requires : tie.Need-negate-for-requires
 negate-for-requires c κs = search needs
 
 returns-3 : tie.Need-returns-3
 returns-3 c =
-    let a = c .before .before .before .before .before .before .args in
-    ap Number (c .negate-for .ensures ∙ ap (λ (p : Float). signed (a .minus) (double (a .w) ⊘ p)) (c .before .power .ensures))
-    ∙ sym (valued-over (a .minus) (a .w) (a .up) (a .down) (c .before .before .before .before .before .if1 .left) (c .before .before .before .before .if2 .taken) (c .before .before .before .if3 .left))
-
-returns-4 : tie.Need-returns-4
-returns-4 c =
-    let a = c .before .before .before .args in
-    sym (valued-steep (a .minus) (a .w) (pos (a .up) -ℤ pos (a .down)) (omega (arith, size-up (a .up) (a .down) (c .before .if2 .left))))
+    let b = c .before .before .before in
+    let a = b .before .before .before .before .args in
+    ap Number (c .negate-for .ensures ∙ ap (λ (ten : Float). signed (a .minus) (double (a .w) ⊘ ten)) (b .power .ensures))
+    ∙ sym (valued-over (a .minus) (a .w) (a .up) (a .down) _ (b .before .before .distance .ensures) (b .before .before .before .if1 .left) (b .before .if2 .left) (c .before .before .if3 .taken))
 
 int-to-float-negate-for-2 : tie.Need-int-to-float-negate-for-2
 unfolding inFloat
-int-to-float-negate-for-2 c = le→leb _ _ (c .before .before .before .if1 .left)
-
-power-requires-2 : tie.Need-power-requires-2
-power-requires-2 c κs = search needs
+int-to-float-negate-for-2 c = le→leb _ _ (c .before .before .before .before .before .if1 .left)
 
 negate-for-requires-2 : tie.Need-negate-for-requires-2
 negate-for-requires-2 c κs = search needs
 
-returns-5 : tie.Need-returns-5
-returns-5 c =
-    let a = c .before .before .before .before .before .before .args in
-    ap Number (c .negate-for2 .ensures ∙ ap (λ (p : Float). signed (a .minus) (double (a .w) ⊗ p)) (c .before .power2 .ensures))
-    ∙ sym (valued-times (a .minus) (a .w) (a .up) (a .down) (c .before .before .before .before .before .if1 .left) (c .before .before .before .before .if2 .left) (c .before .before .before .if4 .left))
+returns-4 : tie.Need-returns-4
+returns-4 c =
+    let b = c .before .before .before in
+    let a = b .before .before .before .before .args in
+    ap Number (c .negate-for2 .ensures ∙ ap (λ (ten : Float). signed (a .minus) (double (a .w) ⊗ ten)) (b .power .ensures))
+    ∙ sym (valued-times (a .minus) (a .w) (a .up) (a .down) _ (b .before .before .distance .ensures) (b .before .before .before .if1 .left) (b .before .if2 .left) (c .before .before .if3 .left))
 
 pub scale-spec : {M : Type 1} → statement M
 scale-spec =
     tie.close
     (tie.spec
     returns
-    sub-k
+    distance-requires
     returns-2
-    int-to-float-negate-for
     power-requires
+    int-to-float-negate-for
     negate-for-requires
     returns-3
-    returns-4
     int-to-float-negate-for-2
-    power-requires-2
     negate-for-requires-2
-    returns-5)
+    returns-4)
