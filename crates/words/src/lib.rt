@@ -1,1 +1,5 @@
 // Lists of memory words: nothing here knows what the words mean.
+pub mod compare;
+pub mod read;
+pub mod scan;
+pub mod write;
