@@ -1,0 +1,4 @@
+-- Document 01, "The listing".
+pub mod Order
+pub mod Figures
+pub mod Listing

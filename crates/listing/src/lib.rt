@@ -1,0 +1,1 @@
+// The listing's definitions only, so far.
