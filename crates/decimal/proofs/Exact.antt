@@ -2,11 +2,11 @@
 -- of ten, since 5^22 has no more digits than a double keeps. Assumes nothing.
 use Prim.Native.Nat.{ℕ, zero, suc, _+_, _*_, _^_, _≤_, _<_}
 use mathlib.Core.Path.{_≡_, refl, ap, sym, subst, _∙_}
-use mathlib.Core.Bool.{Bool, false}
-use native.Mathlib.Nat.{lt-of-le-of-lt, one-le-pow, mul-one, mul-assoc, mul-mul-mul-comm, mul-le-mul-left, mul-le-mul-right, mul-lt-mul-of-pos-right, le-trans, pow-suc, pow-le-pow-right}
-use lib.Dec.{lit<, lit≤}
+use mathlib.Core.Bool.{false}
+use native.Mathlib.Nat.{lt-of-le-of-lt, one-le-pow, mul-one, mul-assoc, mul-mul-mul-comm, mul-le-mul-right, pow-suc, pow-le-pow-right}
+use lib.Dec.{lit<}
 use lib.IntN.{pos, negsuc}
-use lib.Pow.{pow-add, pow-pos}
+use lib.Pow.{pow-add}
 use lib.Ieee.{binary64, low, emax, ofInt, round}
 use lib.Ieee.Back.{round-whole}
 use lib.Ieee.Exact.{HasValue, round-exact}

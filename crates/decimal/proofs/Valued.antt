@@ -1,22 +1,18 @@
 -- What a number is worth, by the tests of the class; numbers that are alike are worth the same. Assumes nothing.
 use Prim.Native.Nat.{ℕ, suc, _+_, _-_, _^_, _≤_, _<_}
-use mathlib.Core.Path.{_≡_, refl, ap, sym, _∙_}
+use mathlib.Core.Path.{_≡_, ap, sym, _∙_}
 use mathlib.Core.Logic.{inl, inr}
-use mathlib.Core.Bool.{Bool, true, false, _&&_}
+use mathlib.Core.Bool.{Bool, true, false, and-false}
 use native.Mathlib.Omega.{arith}
 use lib.IntN.{ℤ, pos, natAbs, _-ℤ_}
 use borrow.Author.Tests.{le-leb, lt-leb}
 use Rattle.plain.specs.Choice.{if_then_else_}
 use Rattle.plain.specs.Doubles.{_⊗_, _⊘_}
-use Rattle.decimal.specs.Form.{Written, number, broken}
+use Rattle.decimal.specs.Form.{Written, number}
 use Rattle.decimal.specs.Class.{LARGEST, STEEPEST, double, scaledBy, signed, valued}
 use Rattle.decimal.specs.Parts.{FAR, Alike}
 use Rattle.decimal.specs.declared.Reading.the-variants.{Number, OutsideClass}
 use Rattle.decimal.proofs.Exponents.{difference-up, difference-down, difference-size}
-
-and-false : (x : Bool) → x && false ≡ false
-and-false true = refl
-and-false false = refl
 
 module _ (m : Bool) (w : ℕ) where
   pub valued-large : (k : ℤ) → LARGEST < w → valued (number m w k) ≡ OutsideClass

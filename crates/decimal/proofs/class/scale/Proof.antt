@@ -1,5 +1,5 @@
 -- `scale` meets its contract: its tests are those of the class, and the larger of the two sides of k says which operation. Assumes nothing.
-use mathlib.Core.Path.{_≡_, sym, ap, _∙_}
+use mathlib.Core.Path.{sym, ap, _∙_}
 use native.Mathlib.Omega.{arith}
 use lib.Dec.{le→leb}
 use lib.IntN.{pos, _-ℤ_}

@@ -3,12 +3,12 @@
 use Prim.Native.Nat.{ℕ, _^_, _<_}
 use mathlib.Core.Path.{_≡_, ap, sym, _∙_}
 use mathlib.Core.Bool.{Bool}
-use mathlib.Core.List.{List, [], _∷_, map}
+use mathlib.Core.List.{List, [], _∷_}
 use native.Mathlib.Omega.{arith}
 use lib.Dec.{eqb, eqb→eq}
 use lib.IntN.{pos}
 use lib.ListN.{length, getD, List·getD-map}
-use lib.Ieee.{Float, binary64, ofBits, toBits, ofInt, size, span, climb, round, units, odd}
+use lib.Ieee.{binary64, ofBits, toBits, ofInt, size, span, climb, round, units, odd}
 use lib.Ieee.Bits.{ofBits-toBits}
 use lib.Ieee.Fits.{ofInt-fits}
 use borrow.Author.Needs.{needs}
