@@ -7,10 +7,9 @@ use rotation::table::Axes;
 use rotation::table::Radii;
 
 pub fn orientation(code: u32, epoch: f64) {
-    print::bytes(b"orientation ");
-    print::decimal(code as u64);
-    print::space();
-    print::double(epoch);
+    print::bytes(b"orientation");
+    print::field(code as u64);
+    print::double_field(epoch);
     let answer = builtin::orientation(code, epoch);
     match answer {
         Oriented::Given(o) => given(o),
@@ -20,8 +19,8 @@ pub fn orientation(code: u32, epoch: f64) {
 }
 
 pub fn radii(code: u32) {
-    print::bytes(b"radii ");
-    print::decimal(code as u64);
+    print::bytes(b"radii");
+    print::field(code as u64);
     let answer = builtin::radii(code);
     match answer {
         Radii::Given(axes) => sized(axes),
@@ -31,7 +30,7 @@ pub fn radii(code: u32) {
 }
 
 fn given(o: Orientation) {
-    print::bytes(b" 0");
+    print::field(0);
     triple(o.ra, o.dec, o.w);
     triple(o.m11, o.m12, o.m13);
     triple(o.m21, o.m22, o.m23);
@@ -39,23 +38,16 @@ fn given(o: Orientation) {
 }
 
 fn sized(axes: Axes) {
-    print::bytes(b" 0");
+    print::field(0);
     triple(axes.a, axes.b, axes.c);
 }
 
 fn refused(refusal: Refusal) {
-    print::space();
-    print::decimal(refusal::number(refusal) as u64);
+    print::field(refusal::number(refusal) as u64);
 }
 
 fn triple(a: f64, b: f64, c: f64) {
-    another(a);
-    another(b);
-    another(c);
-}
-
-// One more double of an answer.
-fn another(x: f64) {
-    print::space();
-    print::double(x);
+    print::double_field(a);
+    print::double_field(b);
+    print::double_field(c);
 }

@@ -29,6 +29,18 @@ pub fn double(x: f64) {
     }
 }
 
+// One more field of a line: a number.
+pub fn field(n: u64) {
+    space();
+    decimal(n);
+}
+
+// One more field of a line: a double.
+pub fn double_field(x: f64) {
+    space();
+    double(x);
+}
+
 pub fn space() {
     bytes(b" ");
 }

@@ -44,6 +44,12 @@ pub fn counted(bytes: &[u8], count: usize) -> bool {
     count < bytes.len() && bytes[count] == b'\n'
 }
 
+// What stands after `count` bytes and their LF.
+pub fn after_counted(bytes: &[u8], count: usize) -> &[u8] {
+    let rest = past(bytes, count);
+    past(rest, 1)
+}
+
 // The place of the first such byte; the end, if there is none.
 fn find(bytes: &[u8], byte: u8) -> usize {
     let mut i = 0;

@@ -12,6 +12,15 @@ pub fn decimal(field: &[u8]) -> Number {
     in_base(field, 10)
 }
 
+// A number in decimal; 0, if the field is none.
+pub fn natural(field: &[u8]) -> u64 {
+    let read = decimal(field);
+    match read {
+        Number::Of(n) => n,
+        Number::Broken => 0,
+    }
+}
+
 // A number in hexadecimal, in upper case.
 pub fn hexadecimal(field: &[u8]) -> Number {
     in_base(field, 16)
