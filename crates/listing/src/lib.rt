@@ -1,1 +1,0 @@
-// The listing's definitions only, so far.
