@@ -8,3 +8,4 @@ pub mod Events
 pub mod LineEnds
 pub mod Bounds
 pub mod Tallies
+pub mod Enough

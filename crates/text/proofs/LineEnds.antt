@@ -82,8 +82,9 @@ module _ (text : List ℕ) (i e : ℕ) (h : i < length text) (q : e ≡ past lin
   pub ends-within : e ≤ length text
   ends-within = omega (arith, past-within lineByte text i (omega arith))
 
-  at-place : lines (drop i text) ≡ lineOf (take (e - i) (drop i text)) (drop e text) ∷ lines (drop (e + 1) text)
-  at-place =
+  -- the line at a place, and the lines after it
+  pub line-at : lines (drop i text) ≡ lineOf (take (e - i) (drop i text)) (drop e text) ∷ lines (drop (e + 1) text)
+  line-at =
       rw (first-of (drop i text) (omega (arith, length-drop i text)), ← take-past lineByte text i, ← drop-past lineByte text i, drop-drop 1 (past lineByte text i) text, q)
 
   -- where no LF ends the line
@@ -93,12 +94,12 @@ module _ (text : List ℕ) (i e : ℕ) (h : i < length text) (q : e ≡ past lin
         starts = ends-after;
         ends = omega arith;
         stays = omega (arith, ends-within);
-        line = at-place ∙ rw (drop-of-length-le text g);
+        line = line-at ∙ rw (drop-of-length-le text g);
       }
 
   module _ (g : e < length text) where
     before-LF : lines (drop i text) ≡ withoutCR (take (e - i) (drop i text)) ∷ lines (drop (e + 1) text)
-    before-LF = at-place ∙ rw (drop-cons text e 0 g)
+    before-LF = line-at ∙ rw (drop-cons text e 0 g)
 
     -- where nothing stands before it
     pub cut-empty : e ≤ i → Cuts text i (record { end = e; next = e + 1 })
@@ -134,3 +135,37 @@ module _ (text : List ℕ) (i e : ℕ) (h : i < length text) (q : e ≡ past lin
             stays = omega (arith, ends-within);
             line = before-LF ∙ rw (last-is, ne-eqb (getD text (e - 1) 0) CR x);
           }
+
+-- ---- two texts
+
+some-line : (bs : List ℕ) → 0 < length (lines (bs ++ LF ∷ []))
+unfolding lines
+some-line [] = omega arith
+some-line (b ∷ bs) = by (eqb b LF) (eqb b CR && atLF (bs ++ LF ∷ [])) (lines (bs ++ LF ∷ [])) (some-line bs)
+  where
+    by : (t u : Bool) (ls : List (List ℕ)) → 0 < length ls → 0 < length (if t then [] ∷ ls else (if u then ls else before b ls))
+    by true u ls h = omega arith
+    by false true ls h = h
+    by false false [] h = omega arith
+    by false false (l ∷ ls) h = omega arith
+
+before-append : (b : ℕ) (ls ms : List (List ℕ)) → 0 < length ls → before b (ls ++ ms) ≡ before b ls ++ ms
+before-append b [] ms h = absurd (not-suc-le-zero h)
+before-append b (l ∷ ls) ms h = refl
+
+at-LF : (xs ys : List ℕ) → atLF ((xs ++ LF ∷ []) ++ ys) ≡ atLF (xs ++ LF ∷ [])
+at-LF [] ys = refl
+at-LF (x ∷ xs) ys = refl
+
+-- texts joined at a line end have the lines of both
+pub lines-join : (xs ys : List ℕ) → lines ((xs ++ LF ∷ []) ++ ys) ≡ lines (xs ++ LF ∷ []) ++ lines ys
+unfolding lines
+lines-join [] ys = refl
+lines-join (x ∷ xs) ys = rw (at-LF xs ys, lines-join xs ys) (by (eqb x LF) (eqb x CR && atLF (xs ++ LF ∷ [])))
+  where
+    by : (t u : Bool)
+        → (if t then [] ∷ (lines (xs ++ LF ∷ []) ++ lines ys) else (if u then lines (xs ++ LF ∷ []) ++ lines ys else before x (lines (xs ++ LF ∷ []) ++ lines ys)))
+        ≡ (if t then [] ∷ lines (xs ++ LF ∷ []) else (if u then lines (xs ++ LF ∷ []) else before x (lines (xs ++ LF ∷ [])))) ++ lines ys
+    by true u = refl
+    by false true = refl
+    by false false = before-append x (lines (xs ++ LF ∷ [])) (lines ys) (some-line xs)
