@@ -9,3 +9,6 @@ pub mod LineEnds
 pub mod Bounds
 pub mod Tallies
 pub mod Enough
+pub mod Passing
+pub mod Counts
+pub mod FirstFault
