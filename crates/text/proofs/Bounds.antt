@@ -1,9 +1,9 @@
 -- A line opens at most one statement and gives no more values than it has bytes. Assumes nothing.
 use Prim.Native.Nat.{ℕ, zero, suc, _+_, _-_, _≤_, _<_}
 use native.Mathlib.Omega.{arith}
-use mathlib.Core.Path.{_≡_, refl, sym, ap, _∙_}
+use mathlib.Core.Path.{_≡_, refl}
 use mathlib.Core.Bool.{Bool, true, false, _||_}
-use mathlib.Core.List.{List, [], _∷_, _++_, map}
+use mathlib.Core.List.{List, [], _∷_, map}
 use borrow.Author.Tests.{ltb-true}
 use lib.Dec.{ltb}
 use lib.Ieee.{Float}
@@ -14,12 +14,11 @@ use Rattle.plain.specs.Runs.{past}
 use Rattle.text.specs.Lines.{LONGEST}
 use Rattle.text.specs.Classes.{blank, fair, nameByte, stands}
 use Rattle.text.specs.Delimiters.{markOf}
-use Rattle.text.specs.Values.{Given, given, wrong, valueAt, item, Items, further, itemsUpTo, items, rest, some, listEnd, listed, alone, givenAt}
-use Rattle.text.specs.Statements.{Event, opened, value, named, headAt, head, openings, givings}
+use Rattle.text.specs.Values.{Given, given, wrong, valueAt, item, further, itemsUpTo, items, rest, some, listEnd, listed, alone, givenAt}
+use Rattle.text.specs.Statements.{Event, opened, value, named, head, openings, givings}
 use Rattle.text.specs.Line.{Outcome, next, fault, adding, stated, fairly, section, plain, marked, answered, counted}
 use Rattle.text.specs.declared.faults.Fault.{Fault}
 use Rattle.text.specs.declared.faults.Fault.the-variants as F
-use Rattle.text.specs.declared.line.Answer.{Answer}
 use Rattle.text.specs.declared.line.Answer.the-variants as A
 use Rattle.text.specs.declared.line.Reader.{Reader}
 use Rattle.text.specs.declared.line.Reader.the-variants as R

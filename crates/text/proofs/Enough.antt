@@ -2,7 +2,7 @@
 -- bytes stand in a line. Assumes nothing.
 use Prim.Native.Nat.{ℕ, zero, suc, _+_, _-_, _≤_, _<_}
 use native.Mathlib.Omega.{arith}
-use mathlib.Core.Path.{_≡_, refl, sym, ap, _∙_}
+use mathlib.Core.Path.{_≡_, refl, sym, _∙_}
 use mathlib.Core.Bool.{Bool, true, false}
 use mathlib.Core.List.{List, [], _∷_}
 use borrow.Author.Tests.{le-ltb}
@@ -18,7 +18,7 @@ use Rattle.decimal.specs.Form.{written}
 use Rattle.decimal.specs.declared.Reading.{Reading}
 use Rattle.decimal.specs.declared.Reading.the-variants as D
 use Rattle.text.specs.Classes.{separator, valueByte, stands}
-use Rattle.text.specs.Values.{told, valueAt, asItem, itemAt, item, Items, further, itemsUpTo, items}
+use Rattle.text.specs.Values.{told, valueAt, asItem, item, Items, further, itemsUpTo, items}
 use Rattle.text.specs.declared.values.Item.{Item}
 use Rattle.text.specs.declared.values.Item.the-variants as I
 use Rattle.text.specs.declared.values.Word.{Word}

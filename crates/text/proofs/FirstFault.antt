@@ -1,7 +1,7 @@
 -- When a text is refused, and where, without the scanner: at the first line that is faulty to the reader that the lines before it leave,
 -- or at the last line where a list is left open. Assumes nothing.
-use Prim.Native.Nat.{ℕ, zero, suc, _+_, _≤_}
-use native.Mathlib.Nat.{zero-add, add-zero}
+use Prim.Native.Nat.{ℕ, _+_, _≤_}
+use native.Mathlib.Nat.{zero-add}
 use native.Mathlib.Omega.{arith}
 use mathlib.Core.Logic.{_⊎_, inl, inr, _↔_}
 use mathlib.Core.Path.{_≡_, refl, sym, ap, _∙_}
@@ -10,7 +10,7 @@ use lib.ListN.{length, length-append}
 use Rattle.text.specs.Lines.{lines}
 use Rattle.text.specs.Line.{Outcome, next, fault, answered}
 use Rattle.text.specs.Statements.{Event}
-use Rattle.text.specs.Text.{Read, fine, refused, finished, preceded, then, readFrom, readText}
+use Rattle.text.specs.Text.{fine, refused, finished, preceded, readFrom, readText}
 use Rattle.text.specs.declared.faults.Fault.{Fault}
 use Rattle.text.specs.declared.faults.Fault.the-variants as F
 use Rattle.text.specs.declared.line.Reader.{Reader}
@@ -72,23 +72,43 @@ stops r before (l ∷ ls) q n k e = by (answered r l) refl e (λ s. stops s (bef
     by (fault w j) a e f =
         let z : before + 1 ≡ n = cc in
         record {
-          earlier = []; line = l; later = ls; split = refl; number-is = omega arith; reader = r; added = []; passes = refl;
-          faulty = a ∙ cc
+          earlier = [];
+          line = l;
+          later = ls;
+          split = refl;
+          number-is = omega arith;
+          reader = r;
+          added = [];
+          passes = refl;
+          faulty = a ∙ cc;
         }
     by (next s es) a e f =
         let t = f s (stops-later es (passing s (before + 1) ls) q n k e) in
         record {
-          earlier = l ∷ t .earlier; line = t .line; later = t .later; split = ap (λ (x : List (List ℕ)). l ∷ x) (t .split);
-          number-is = omega (arith, t .number-is); reader = t .reader; added = es ++ t .added;
-          passes = rw (a, t .passes); faulty = t .faulty
+          earlier = l ∷ t .earlier;
+          line = t .line;
+          later = t .later;
+          split = ap (λ (x : List (List ℕ)). l ∷ x) (t .split);
+          number-is = omega (arith, t .number-is);
+          reader = t .reader;
+          added = es ++ t .added;
+          passes = rw (a, t .passes);
+          faulty = t .faulty;
         }
 
 first-faulty : (ls : List (List ℕ)) (q : Fault) (n k : ℕ) → passing R.Text 0 ls ≡ stopped q n k → FirstFaulty ls q n k
 first-faulty ls q n k e =
     let t = stops R.Text 0 ls q n k e in
     record {
-      earlier = t .earlier; line = t .line; later = t .later; split = t .split; number-is = omega (arith, t .number-is);
-      reader = t .reader; added = t .added; passes = t .passes; faulty = t .faulty
+      earlier = t .earlier;
+      line = t .line;
+      later = t .later;
+      split = t .split;
+      number-is = omega (arith, t .number-is);
+      reader = t .reader;
+      added = t .added;
+      passes = t .passes;
+      faulty = t .faulty;
     }
 
 -- ---- the end of all lines

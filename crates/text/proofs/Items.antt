@@ -1,10 +1,10 @@
 -- The items of a list in a line, one at a time: what is counted so far and what is left make all. Assumes nothing.
-use Prim.Native.Nat.{ℕ, zero, suc, _+_, _-_, _<_, _≤_}
+use Prim.Native.Nat.{ℕ, zero, suc, _+_, _-_, _<_}
 use native.Mathlib.Nat.{not-suc-le-zero, add-zero, zero-add}
 use native.Mathlib.Omega.{arith}
-use mathlib.Core.Path.{_≡_, refl, sym, ap, _∙_}
+use mathlib.Core.Path.{_≡_, refl, sym, _∙_}
 use mathlib.Core.Bool.{Bool, true, false}
-use mathlib.Core.List.{List, [], _∷_}
+use mathlib.Core.List.{List}
 use borrow.Author.Tests.{ltb-true}
 use lib.Dec.{ltb}
 use lib.Ieee.{Float}
@@ -13,7 +13,7 @@ use Rattle.plain.specs.Bytes.{CLOSE}
 use Rattle.plain.specs.Choice.{if_then_else_}
 use Rattle.plain.specs.Runs.{past}
 use Rattle.text.specs.Classes.{separator, stands}
-use Rattle.text.specs.Values.{valueAt, asItem, itemAt, item, Items, ended, further, itemsUpTo, items, tally}
+use Rattle.text.specs.Values.{valueAt, asItem, item, Items, ended, further, itemsUpTo, tally}
 use Rattle.text.specs.declared.faults.Fault.{Fault}
 use Rattle.text.specs.declared.values.Counted.{Counted}
 use Rattle.text.specs.declared.values.Item.{Item}

@@ -3,7 +3,7 @@
 use Prim.Native.Nat.{ℕ, zero, suc, _+_, _-_, _≤_, _<_}
 use native.Mathlib.Nat.{not-suc-le-zero}
 use native.Mathlib.Omega.{arith}
-use mathlib.Core.Path.{_≡_, refl, sym, ap, _∙_}
+use mathlib.Core.Path.{_≡_, refl, _∙_}
 use mathlib.Core.Bool.{Bool, true, false, _&&_, not}
 use mathlib.Core.List.{List, [], _∷_, _++_}
 use borrow.Author.Tests.{eq-eqb, ne-eqb}
@@ -17,7 +17,6 @@ use Rattle.plain.proofs.Places.{past-after, past-within, take-past}
 use Rattle.plain.proofs.Runs.{drop-past}
 use Rattle.text.specs.Classes.{lineByte}
 use Rattle.text.specs.Lines.{before, atLF, lines, Cuts}
-use Rattle.text.specs.declared.lines.Cut.{Cut}
 
 -- ---- lists
 

@@ -41,6 +41,10 @@ abbrev pub lastLong : ℕ → List (List ℕ) → ℕ
 lastLong long [] = long
 lastLong long (l ∷ ls) = lastLong (length l) ls
 
+pub last-long : (long : ℕ) (ls : List (List ℕ)) (l : List ℕ) → lastLong long (ls ++ l ∷ []) ≡ length l
+last-long long [] l = refl
+last-long long (m ∷ ls) l = last-long (length m) ls l
+
 -- lines that were passed, and what is read after them
 abbrev pub readOn : Passed → (Reader → Read) → Read
 readOn (passed r es) more = preceded es (more r)

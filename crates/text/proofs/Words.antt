@@ -2,13 +2,13 @@
 use Prim.Native.Nat.{ℕ, _+_, _≤_, _<_}
 use native.Mathlib.Numerals.{add-one}
 use mathlib.Core.Path.{_≡_, sym, ap, _∙_}
-use mathlib.Core.Bool.{Bool, true, false}
-use mathlib.Core.List.{List, [], _∷_}
+use mathlib.Core.Bool.{false}
+use mathlib.Core.List.{List}
 use borrow.Author.Tests.{eq-eqb, ne-eqb}
 use lib.Dec.{leb}
 use lib.ListN.{length, drop, getD, drop-of-length-le}
 use lib.Seq.{drop-cons}
-use Rattle.plain.specs.Runs.{skip, past, none}
+use Rattle.plain.specs.Runs.{past, none}
 use Rattle.plain.proofs.Runs.{drop-past}
 use Rattle.plain.proofs.Places.{none-drop}
 use Rattle.text.specs.Classes.{blank}

@@ -1,6 +1,6 @@
 -- "A line that, without outer blanks, is exactly `\begindata` or `\begintext` opens the section it names." Definitions only.
 use Prim.Native.Nat.{ℕ}
-use mathlib.Core.Bool.{Bool, true, false, _&&_}
+use mathlib.Core.Bool.{Bool, false, _&&_}
 use mathlib.Core.List.{List, [], _∷_}
 use lib.Dec.{eqb}
 use Rattle.plain.specs.Choice.{if_then_else_}

@@ -1,9 +1,8 @@
 -- The answer to one line: what it adds and how the reader stands after it, or its first fault. Definitions only.
 use Prim.Native.Nat.{ℕ, _-_}
-use mathlib.Core.Bool.{Bool, true, false}
+use mathlib.Core.Bool.{true, false}
 use mathlib.Core.List.{List, [], _∷_, _++_, map}
 use lib.Dec.{ltb}
-use lib.Ieee.{Float}
 use lib.ListN.{length, take, drop}
 use Rattle.plain.specs.Choice.{if_then_else_}
 use Rattle.plain.specs.Runs.{past}

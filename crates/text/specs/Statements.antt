@@ -1,10 +1,10 @@
 -- "Name .. Then, blanks optional, `=` (direct) or `+=` (append). Then a number, or `(` .." Definitions only.
 use Prim.Native.Nat.{ℕ, _+_, _-_}
-use mathlib.Core.Bool.{Bool, _&&_}
-use mathlib.Core.List.{List, [], _∷_, map}
+use mathlib.Core.Bool.{_&&_}
+use mathlib.Core.List.{List, [], _∷_}
 use lib.Dec.{ltb}
 use lib.Ieee.{Float, binary64, toBits}
-use lib.ListN.{length, take, drop}
+use lib.ListN.{length}
 use Rattle.plain.specs.Choice.{if_then_else_}
 use Rattle.plain.specs.Bytes.{PLUS, EQUALS, within}
 use Rattle.plain.specs.Runs.{past}

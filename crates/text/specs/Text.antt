@@ -3,7 +3,7 @@ use Prim.Native.Nat.{ℕ, _+_}
 use mathlib.Core.List.{List, [], _∷_, _++_}
 use lib.ListN.{length}
 use Rattle.text.specs.Lines.{lines}
-use Rattle.text.specs.Statements.{Event, Statement, statements, openings, givings}
+use Rattle.text.specs.Statements.{Event, openings, givings}
 use Rattle.text.specs.Line.{Outcome, next, fault, answered}
 use Rattle.text.specs.declared.Checked.{Checked}
 use Rattle.text.specs.declared.Checked.the-variants as C

@@ -1,7 +1,7 @@
 -- `read_operator` meets its contract: each way out is one case of `operated`. Assumes nothing.
 use Prim.Native.Nat.{_+_}
 use native.Mathlib.Omega.{arith}
-use mathlib.Core.Path.{sym, _∙_}
+use mathlib.Core.Path.{sym}
 use borrow.Author.Needs.{needs}
 use Rattle.plain.specs.Bytes.{PLUS, EQUALS}
 use Rattle.text.proofs.Standing.{stands-within}
