@@ -11,12 +11,10 @@ use lib.ListN.{length, take, drop}
 use Rattle.plain.specs.Bytes.{OPEN}
 use Rattle.plain.specs.Choice.{if_then_else_}
 use Rattle.plain.specs.Runs.{past}
-use Rattle.text.specs.Lines.{LONGEST}
-use Rattle.text.specs.Classes.{blank, fair, nameByte, stands}
-use Rattle.text.specs.Delimiters.{markOf}
+use Rattle.text.specs.Classes.{blank, nameByte, stands}
 use Rattle.text.specs.Values.{Given, given, wrong, valueAt, item, further, itemsUpTo, items, rest, some, listEnd, listed, alone, givenAt}
 use Rattle.text.specs.Statements.{Event, opened, value, named, head, openings, givings}
-use Rattle.text.specs.Line.{Outcome, next, fault, adding, stated, fairly, section, plain, marked, answered, counted}
+use Rattle.text.specs.Line.{Outcome, next, fault, adding, stated, answered, counted}
 use Rattle.text.specs.declared.faults.Fault.{Fault}
 use Rattle.text.specs.declared.faults.Fault.the-variants as F
 use Rattle.text.specs.declared.line.Answer.the-variants as A
@@ -24,14 +22,13 @@ use Rattle.text.specs.declared.line.Reader.{Reader}
 use Rattle.text.specs.declared.line.Reader.the-variants as R
 use Rattle.text.specs.declared.statements.Head.{Head}
 use Rattle.text.specs.declared.statements.Head.the-variants as H
-use Rattle.text.specs.declared.delimiters.Mark.{Mark}
-use Rattle.text.specs.declared.delimiters.Mark.the-variants as M
 use Rattle.text.specs.declared.values.Item.{Item}
 use Rattle.text.specs.declared.values.Item.the-variants as I
 use Rattle.text.specs.declared.values.Stop.{Stop}
 use Rattle.text.specs.declared.values.Stop.the-variants as S
 use Rattle.text.specs.declared.values.Word.{Word}
 use Rattle.text.specs.declared.values.Word.the-variants as W
+use Rattle.text.proofs.Answers.{said, holds-answered}
 use Rattle.text.proofs.Events.{openings-append, givings-append, openings-values, givings-values}
 
 -- ---- values
@@ -116,37 +113,15 @@ few-head line = by (ltb (past blank line 0) (length line)) refl
     by true e = few-stated line (named line n (past nameByte line n)) (omega (arith, ltb-true n (length line) e))
     by false e = (omega arith, omega arith)
 
-few-fairly : (line : List ℕ) (o : Outcome) → Few (length line) o → Few (length line) (fairly line o)
-few-fairly line o f = by (ltb (past fair line 0) (length line))
-  where
-    by : (t : Bool) → Few (length line) (if t then fault F.BadByte (past fair line 0) else o)
-    by true = tt
-    by false = f
-
-few-plain : (r : Reader) (line : List ℕ) → Few (length line) (plain r line)
-few-plain R.Text line = (omega arith, omega arith)
-few-plain R.Data line = few-fairly line (stated line (head line)) (few-head line)
-few-plain R.Open line = few-fairly line (adding [] (listed false line 0)) (few-adding (length line) [] (listed false line 0) (omega arith) refl (few-listed false line 0))
-few-plain R.Filled line = few-fairly line (adding [] (listed true line 0)) (few-adding (length line) [] (listed true line 0) (omega arith) refl (few-listed true line 0))
-
-few-section : (n : ℕ) (r s : Reader) → Few n (section r s)
-few-section n R.Text s = (omega arith, omega arith)
-few-section n R.Data s = (omega arith, omega arith)
-few-section n R.Open s = tt
-few-section n R.Filled s = tt
-
-few-marked : (m : Mark) (r : Reader) (line : List ℕ) → Few (length line) (marked m r line)
-few-marked M.Data r line = few-section (length line) r R.Data
-few-marked M.Text r line = few-section (length line) r R.Text
-few-marked M.Plain r line = few-plain r line
+few-said : (r : Reader) (line : List ℕ) → Few (length line) (said r line)
+few-said R.Text line = (omega arith, omega arith)
+few-said R.Data line = few-head line
+few-said R.Open line = few-adding (length line) [] (listed false line 0) (omega arith) refl (few-listed false line 0)
+few-said R.Filled line = few-adding (length line) [] (listed true line 0) (omega arith) refl (few-listed true line 0)
 
 few-answered : (r : Reader) (line : List ℕ) → Few (length line) (answered r line)
-unfolding answered
-few-answered r line = by (ltb LONGEST (length line))
-  where
-    by : (t : Bool) → Few (length line) (if t then fault F.TooLong LONGEST else marked (markOf line) r line)
-    by true = tt
-    by false = few-marked (markOf line) r line
+few-answered r line =
+    holds-answered (Few (length line)) (λ q k. tt) (omega arith, omega arith) (omega arith, omega arith) r line (few-said r line)
 
 counts-few : (n : ℕ) (o : Outcome) (s : Reader) (a b : ℕ) → Few n o → counted o ≡ A.Next s a b → (a ≤ 1) × (b ≤ n)
 counts-few n (fault q k) s a b f e = let z : _≡_ {A = ℕ} 0 1 = cc in absurd (omega arith)

@@ -3,27 +3,19 @@
 use Prim.Native.Nat.{ℕ, _+_, _-_}
 use native.Mathlib.Omega.{arith}
 use mathlib.Core.Path.{_≡_, refl, ap}
-use mathlib.Core.Bool.{Bool, true, false}
 use mathlib.Core.List.{List, [], _∷_}
-use lib.Dec.{ltb}
 use lib.ListN.{length, take, drop}
-use Rattle.plain.specs.Choice.{if_then_else_}
-use Rattle.plain.specs.Runs.{past}
-use Rattle.text.specs.Lines.{LONGEST, lines}
-use Rattle.text.specs.Classes.{fair}
-use Rattle.text.specs.Delimiters.{markOf}
-use Rattle.text.specs.Line.{Outcome, next, fault, adding, stated, fairly, section, plain, marked, answered}
+use Rattle.text.specs.Lines.{lines}
+use Rattle.text.specs.Line.{Outcome, next, fault, adding, stated, answered}
 use Rattle.text.specs.Statements.{Event, opened, value, Statement, gathered, statements, head, openings, givings}
 use Rattle.text.specs.Text.{Read, fine, refused, finished, preceded, then, readFrom, readText}
 use Rattle.text.specs.Values.{Given, given, wrong, givenAt}
-use Rattle.text.specs.declared.delimiters.Mark.{Mark}
-use Rattle.text.specs.declared.delimiters.Mark.the-variants as M
 use Rattle.text.specs.declared.faults.Fault.{Fault}
-use Rattle.text.specs.declared.faults.Fault.the-variants as F
 use Rattle.text.specs.declared.line.Reader.{Reader}
 use Rattle.text.specs.declared.line.Reader.the-variants as R
 use Rattle.text.specs.declared.statements.Head.{Head}
 use Rattle.text.specs.declared.statements.Head.the-variants as H
+use Rattle.text.proofs.Answers.{said, holds-answered}
 
 -- ---- of any events
 
@@ -72,37 +64,14 @@ stated-opens line (H.Named n e o i) = by (givenAt line i)
     by (given r xs) = tt
     by (wrong q k) = tt
 
-fairly-opens : (line : List ℕ) (o : Outcome) → OpensFirst o → OpensFirst (fairly line o)
-fairly-opens line o h = by (ltb (past fair line 0) (length line))
-  where
-    by : (t : Bool) → OpensFirst (if t then fault F.BadByte (past fair line 0) else o)
-    by true = tt
-    by false = h
-
-plain-opens : (r : Reader) (line : List ℕ) → Outside r → OpensFirst (plain r line)
-plain-opens R.Text line h = tt
-plain-opens R.Data line h = fairly-opens line (stated line (head line)) (stated-opens line (head line))
-plain-opens R.Open line h = absurd h
-plain-opens R.Filled line h = absurd h
-
-section-opens : (r s : Reader) → Outside r → Outside s → OpensFirst (section r s)
-section-opens R.Text s h g = g
-section-opens R.Data s h g = g
-section-opens R.Open s h g = absurd h
-section-opens R.Filled s h g = absurd h
-
-marked-opens : (m : Mark) (r : Reader) (line : List ℕ) → Outside r → OpensFirst (marked m r line)
-marked-opens M.Data r line h = section-opens r R.Data h tt
-marked-opens M.Text r line h = section-opens r R.Text h tt
-marked-opens M.Plain r line h = plain-opens r line h
+said-opens : (r : Reader) (line : List ℕ) → Outside r → OpensFirst (said r line)
+said-opens R.Text line h = tt
+said-opens R.Data line h = stated-opens line (head line)
+said-opens R.Open line h = absurd h
+said-opens R.Filled line h = absurd h
 
 line-opens : (r : Reader) (line : List ℕ) → Outside r → OpensFirst (answered r line)
-unfolding answered
-line-opens r line h = by (ltb LONGEST (length line))
-  where
-    by : (t : Bool) → OpensFirst (if t then fault F.TooLong LONGEST else marked (markOf line) r line)
-    by true = tt
-    by false = marked-opens (markOf line) r line h
+line-opens r line h = holds-answered OpensFirst (λ q k. tt) tt tt r line (said-opens r line h)
 
 -- what is read has no loose value
 abbrev Tidy : Read → Type 0
@@ -126,7 +95,7 @@ unfolding readFrom
 lines-tidy r number long [] h = finished-tidy r number long
 lines-tidy r number long (l ∷ ls) h = by (answered r l) (line-opens r l h) (λ s. lines-tidy s (number + 1) (length l) ls)
   where
-    by : (o : Outcome) → OpensFirst o → ((s : Reader) → Outside s → Tidy (readFrom s (number + 1) (length l) ls)) → Tidy ((then) o (number + 1) (λ s. readFrom s (number + 1) (length l) ls))
+    by : (o : Outcome) → OpensFirst o → ((s : Reader) → Outside s → Tidy (readFrom s (number + 1) (length l) ls)) → Tidy (then o (number + 1) (λ s. readFrom s (number + 1) (length l) ls))
     by (next s es) g f = preceded-tidy s es (readFrom s (number + 1) (length l) ls) g (f s)
     by (fault q k) g f = tt
 

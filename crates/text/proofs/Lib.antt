@@ -6,6 +6,7 @@ pub mod Items
 pub mod Lists
 pub mod Events
 pub mod LineEnds
+pub mod Answers
 pub mod Bounds
 pub mod Tallies
 pub mod Enough

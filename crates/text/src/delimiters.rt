@@ -5,13 +5,14 @@ ghost use mathlib.Core.Path.{_≡_};
 ghost use lib.ListN.{drop};
 ghost use Rattle.text.specs.Delimiters.{word, markOf};
 
-// The section that a line opens, if any.
+// What a line is: one that opens a section, or any other.
 pub enum Mark {
     Data,
     Text,
     Plain,
 }
 
+// The section that the line opens, if any.
 pub fn read_mark(line: &[u8]) -> Mark
     ensures { λ r. ⌜ r ≡ markOf (now (line .entry)) ⌝ }
 {

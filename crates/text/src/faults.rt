@@ -3,6 +3,7 @@ use refusal::Refusal;
 ghost use mathlib.Core.Path.{_≡_};
 ghost use Rattle.text.specs.Faults.{refusalOf};
 
+// What is wrong, which goes with its place in the line, counted in bytes from 0.
 pub enum Fault {
     TooLong,
     BadByte,

@@ -12,7 +12,7 @@ use crate::line::Answer;
 use crate::line::Reader;
 ghost use mathlib.Core.Path.{_≡_};
 ghost use Prim.Native.Nat.{ℕ};
-ghost use Rattle.text.specs.Text.{readText, finished, tallied};
+ghost use Rattle.text.specs.Text.{readText, tallied};
 
 // How many statements and values a text has, or its first fault, the fault's line and its place there.
 pub enum Checked {
@@ -52,7 +52,7 @@ pub fn check(text: &[u8]) -> Checked
     }
 }
 
-// The refusal of a line's fault, with the line's number.
+// The refusal of a line's fault, with the line's number. (An answer without fault is never asked about.)
 fn refused(answer: Answer, number: usize) -> Checked
     ensures { λ r. ⌜ ((q : Fault) (k : ℕ) → answer ≡ Answer.Fault q k → r ≡ Checked.Refused q number k) ⌝ }
 {

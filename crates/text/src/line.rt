@@ -10,10 +10,9 @@ use crate::statements::Head;
 use crate::values;
 use crate::values::Taken;
 ghost use mathlib.Core.Path.{_≡_};
-ghost use mathlib.Core.List.{List, []};
+ghost use mathlib.Core.List.{[]};
 ghost use Rattle.text.specs.Values.{listed};
-ghost use Rattle.text.specs.Statements.{head};
-ghost use Rattle.text.specs.Line.{answered, counted, section, plain, fairly, stated, adding, answerOf};
+ghost use Rattle.text.specs.Line.{answered, counted, section, plain, fairly, adding, answerOf};
 
 // How the reader stands between two lines: in a text section, in a data section, or there in a list without or with numbers so far.
 pub enum Reader {
@@ -29,6 +28,7 @@ pub enum Answer {
     Fault(Fault, usize),
 }
 
+// What a line does to the reader, or its first fault.
 pub fn line_step(reader: Reader, line: &[u8]) -> Answer
     ensures { λ r. ⌜ r ≡ counted (answered reader (now (line .entry))) ⌝ }
 {
@@ -67,9 +67,9 @@ fn plain(reader: Reader, line: &[u8]) -> Answer
     }
 }
 
-// A data line outside a list: a statement, or blanks.
+// A line of a data section outside a list: a statement, or blanks.
 fn statement(line: &[u8]) -> Answer
-    ensures { λ r. ⌜ r ≡ counted (fairly (now (line .entry)) (stated (now (line .entry)) (head (now (line .entry))))) ⌝ }
+    ensures { λ r. ⌜ r ≡ counted (plain Reader.Data (now (line .entry))) ⌝ }
 {
     let k = classes::past(Class::Fair, line, 0);
     if k < line.len() {
@@ -83,7 +83,7 @@ fn statement(line: &[u8]) -> Answer
     }
 }
 
-// A data line inside a list.
+// A line of a data section inside a list.
 fn list_on(filled: bool, line: &[u8]) -> Answer
     ensures { λ r. ⌜ r ≡ counted (fairly (now (line .entry)) (adding [] (listed filled (now (line .entry)) 0))) ⌝ }
 {

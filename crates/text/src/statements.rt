@@ -15,13 +15,14 @@ pub enum Operator {
     Append,
 }
 
-// What a data line opens with: nothing but blanks; a name from a place to a place, its operator and where its values start; a fault.
+// What a data line opens with: blanks only; a name by its start and end, its operator and where its values start; or a fault.
 pub enum Head {
     Blank,
     Named(usize, usize, Operator, usize),
     Fault(Fault, usize),
 }
 
+// The statement that the line opens, up to its values.
 pub fn read_head(line: &[u8]) -> Head
     ensures { λ r. ⌜ r ≡ head (now (line .entry)) ⌝ }
 {

@@ -10,7 +10,7 @@ ghost use mathlib.Core.List.{List};
 ghost use lib.Dec.{ltb};
 ghost use lib.Ieee.{Float};
 ghost use lib.ListN.{length};
-ghost use Rattle.text.specs.Values.{valueAt, item, items, tally, rest, listEnd, listed, givenAt, taken};
+ghost use Rattle.text.specs.Values.{valueAt, item, items, tally, rest, listed, givenAt, taken};
 
 // A value: the number and the place after it; or a fault where it starts.
 pub enum Word {
@@ -142,16 +142,6 @@ pub fn list(filled: bool, line: &[u8], at: usize) -> Taken
     }
 }
 
-// The list has a number, on an earlier line or on this one.
-fn has_some(filled: bool, numbers: usize) -> bool
-    ensures { λ r. ⌜ r ≡ filled || ltb 0 numbers ⌝ }
-{
-    if filled {
-        return true;
-    }
-    0 < numbers
-}
-
 // The values that start at a place, after the operator.
 pub fn value(line: &[u8], at: usize) -> Taken
     ensures { λ r. ⌜ r ≡ taken (givenAt (now (line .entry)) at) ⌝ }
@@ -175,4 +165,14 @@ pub fn rest(numbers: usize, line: &[u8], at: usize) -> Taken
         return Taken::Fault(Fault::RestOfLine, k);
     }
     Taken::Values(Reader::Data, numbers)
+}
+
+// The list has a number, on an earlier line or on this one.
+fn has_some(filled: bool, numbers: usize) -> bool
+    ensures { λ r. ⌜ r ≡ filled || ltb 0 numbers ⌝ }
+{
+    if filled {
+        return true;
+    }
+    0 < numbers
 }
