@@ -19,6 +19,13 @@ sized m = eqb (length m) WORDS
 abbrev pub limited : List ℕ → Bool
 limited m = leb (textCount m) TEXTS && leb (statementCount m) STATEMENTS && leb (valueCount m) VALUES
 
+-- both as facts: what reading the areas requires
+pub record Sized (m : List ℕ) : Type 0 where
+  pub words : length m ≡ WORDS
+  pub texts : textCount m ≤ TEXTS
+  pub statements : statementCount m ≤ STATEMENTS
+  pub values : valueCount m ≤ VALUES
+
 -- "labels distinct"
 abbrev pub labelled : List ℕ → Bool
 labelled m = distinct (textWords m)

@@ -8,6 +8,7 @@ use native.Mathlib.Omega.{arith}
 use lib.ListN.{length, take, drop, getD, set, length-map, length-drop, List·getD-map}
 use lib.Seq.{take-suc, length-take-le, getD-drop}
 use Rattle.words.specs.Over.{over, part, moved}
+use Rattle.words.proofs.Each.{Each}
 
 -- a place that lies before what begins at 0
 before-zero : {X : Type 0} {n : ℕ} → suc n ≤ 0 → X
@@ -169,3 +170,12 @@ moved-turn {A} to from n j m d h k l =
     let p : length (take j (drop from m)) ≡ j = length-take-le j (drop from m) (omega arith) in
     let e : getD (moved to from j m) (from + j) d ≡ getD (drop from m) j d = getD-over-after to (take j (drop from m)) m (from + j) d (omega arith) ∙ sym (getD-drop from m j d) in
     ap (λ (v : A). set (moved to from j m) (to + j) v) e ∙ over-turn to (drop from m) m j d (omega arith)
+
+-- ---- a fact of every word, of those that are written and of those that were there
+
+pub each-over : {A : Type 0} (P : A → Type 0) (at : ℕ) (xs m : List A) → Each P xs → Each P m → Each P (over at xs m)
+unfolding over
+each-over P at xs [] f g = tt
+each-over P zero [] (y ∷ m) f g = g
+each-over P zero (x ∷ xs) (y ∷ m) f g = (f .0, each-over P zero xs m (f .1) (g .1))
+each-over P (suc at) xs (y ∷ m) f g = (g .0, each-over P at xs m f (g .1))

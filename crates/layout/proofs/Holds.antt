@@ -1,0 +1,283 @@
+-- A memory holds a state: a sound one what it decodes to, and one that was put into what was put. Assumes nothing.
+use mathlib.Core.Path.{_≡_, refl, sym, ap, ap₂, subst, _∙_}
+use mathlib.Core.Bool.{Bool, true, false}
+use mathlib.Core.List.{List, [], _∷_, _++_, map}
+use Prim.Native.Nat.{ℕ, _+_, _*_, _≤_, _<_}
+use native.Mathlib.Omega.{arith}
+use lib.Dec.{lit<, lit≤}
+use lib.ListN.{length, take, drop, getD, length-map}
+use lib.Seq.{getD-take}
+use Rattle.text.specs.Statements.{Statement}
+use Rattle.words.specs.Halves.{HALF, upper, lower, sum}
+use Rattle.words.specs.Over.{over, part}
+use Rattle.words.proofs.Each.{Each, Words, WORD, each-take, each-drop}
+use Rattle.words.proofs.Halves.{Different, upper-joined, lower-joined}
+use Rattle.words.proofs.Over.{length-over, part-over, each-over}
+use Rattle.layout.specs.State.{Text, Pool, program, flat, valuesOf, values}
+use Rattle.layout.specs.Limits.{TEXTS, STATEMENTS, VALUES, WORDS, NAMEWORDS, TEXTS-AT, HEADS-AT, NAMES-AT, VALUES-AT}
+use Rattle.layout.specs.Memory.{textCount, statementCount, valueCount, textWords, headWords, nameWords, valueWords, operatorNumber, cutStatements, cutTexts, decode, textWord, headWord, nameOf, totals, put}
+use Rattle.layout.specs.Damage.{Sized, small, sound}
+use Rattle.layout.proofs.Areas.{length-part, length-texts, length-heads, length-names, length-values}
+use Rattle.layout.proofs.Sound.{Sound, Named, sound-of, of-sound}
+use Rattle.layout.proofs.Columns.{At, at-before, at-after, Column, laid, Spaced, Within, Room, Stands, putColumns, at-putColumns, length-putColumns, stands-over, put-stands, flat-map}
+use Rattle.layout.proofs.Legal.{Fits, Fair, Legal, Bounded, labelOf}
+use Rattle.layout.proofs.Codec.{Short, ShortText, cut-statements, cut-texts, each-short, each-short-text, sum-texts, sum-heads, length-laid-names, length-cut, heads-cut, values-cut, names-cut, words-cut, program-cut, labels-cut, fair-cut, bounded-cut, bounded-labels, labels-laid, named-laid, operators-laid, counts-laid, small-laid, words-texts, words-heads, words-names, words-values}
+
+pub record Holds (m : List ℕ) (s : Pool) : Type 0 where
+  pub words : length m ≡ WORDS
+  pub textCount= : textCount m ≡ length s
+  pub statementCount= : statementCount m ≡ length (program s)
+  pub valueCount= : valueCount m ≡ length (values s)
+  pub texts : textWords m ≡ map textWord s
+  pub heads : headWords m ≡ map headWord (program s)
+  pub names : nameWords m ≡ flat nameOf (program s)
+  pub values : valueWords m ≡ values s
+  pub fits : Fits s
+
+-- ---- a sound memory holds what it decodes to
+
+module _ (m : List ℕ) (S : Sound m) where
+  abbrev ss : List Statement
+  ss = cutStatements (headWords m) (nameWords m) (valueWords m)
+
+  length-ss : length ss ≡ statementCount m
+  length-ss = length-cut (headWords m) (nameWords m) (valueWords m) ∙ length-heads m (S .sizes)
+
+  heads= : sum (headWords m) ≡ length (valueWords m)
+  heads= = S .values= ∙ sym (length-values m (S .sizes))
+
+  -- the statements of a sound memory are those cut out of its areas
+  pub program-decode : program (decode m) ≡ ss
+  unfolding decode
+  program-decode = program-cut (textWords m) ss (S .statements= ∙ sym length-ss)
+
+  pub texts-decode : map textWord (decode m) ≡ textWords m
+  unfolding decode
+  texts-decode = words-cut (textWords m) ss (omega (arith, S .statements=, length-ss))
+
+  pub heads-decode : map headWord (program (decode m)) ≡ headWords m
+  heads-decode = ap (map headWord) program-decode ∙ heads-cut (headWords m) (nameWords m) (valueWords m) (S .operators) (omega (arith, heads=))
+
+  pub values-decode : values (decode m) ≡ valueWords m
+  values-decode = ap (flat valuesOf) program-decode ∙ values-cut (headWords m) (nameWords m) (valueWords m) heads=
+
+  pub names-decode : Words m → flat nameOf (program (decode m)) ≡ nameWords m
+  names-decode w =
+      ap (flat nameOf) program-decode
+      ∙ names-cut (headWords m) (nameWords m) (valueWords m) (length-names m (S .sizes) ∙ sym (ap (λ (k : ℕ). NAMEWORDS * k) (length-heads m (S .sizes))))
+      (each-take (λ x. x < WORD) (NAMEWORDS * statementCount m) (drop NAMES-AT m) (each-drop (λ x. x < WORD) NAMES-AT m w)) (S .names)
+
+  pub length-decode : length (decode m) ≡ textCount m
+  length-decode = sym (length-map (decode m) textWord) ∙ ap length texts-decode ∙ length-texts m (S .sizes)
+
+  pub length-program : length (program (decode m)) ≡ statementCount m
+  length-program = ap length program-decode ∙ length-ss
+
+  pub length-held : length (values (decode m)) ≡ valueCount m
+  length-held = ap length values-decode ∙ length-values m (S .sizes)
+
+  pub decode-fits : Fits (decode m)
+  decode-fits = record {
+    texts = omega (arith, length-decode, S .sizes .texts);
+    statements = omega (arith, length-program, S .sizes .statements);
+    values = omega (arith, length-held, S .sizes .values);
+  }
+
+  pub decode-legal : Legal (decode m)
+  unfolding decode
+  decode-legal = record {
+    labels = subst Different (sym (labels-cut (textWords m) ss)) (S .labels);
+    statements = subst (Each Fair) (sym program-decode) (fair-cut (headWords m) (nameWords m) (valueWords m) (S .names) (S .counts) (omega (arith, heads=)) (S .values));
+  }
+
+  pub decode-bounded : Words m → Bounded (decode m)
+  unfolding decode
+  decode-bounded w =
+      let p : (o n : ℕ) → Words (part o n m) = λ o n. each-take (λ x. x < WORD) n (drop o m) (each-drop (λ x. x < WORD) o m w) in
+      record {
+        labels = bounded-labels (textWords m) ss (p TEXTS-AT (textCount m));
+        values = subst (Each (λ x. Words (x .values))) (sym program-decode) (bounded-cut (headWords m) (nameWords m) (valueWords m) (p VALUES-AT (valueCount m)));
+      }
+
+  pub holds-decode : Words m → Holds m (decode m)
+  holds-decode w = record {
+    words = S .sizes .words;
+    textCount= = sym length-decode;
+    statementCount= = sym length-program;
+    valueCount= = sym length-held;
+    texts = sym texts-decode;
+    heads = sym heads-decode;
+    names = sym (names-decode w);
+    values = sym values-decode;
+    fits = decode-fits;
+  }
+
+-- ---- a memory that holds a legal state decodes to it, and is sound
+
+module _ (m : List ℕ) (s : Pool) (H : Holds m s) where
+  short : Each Short (program s)
+  short = each-short (program s) (omega (arith, H .fits .values))
+
+  short-texts : Each ShortText s
+  short-texts = each-short-text s (omega (arith, H .fits .statements))
+
+  pub decode-holds : Each Fair (program s) → decode m ≡ s
+  unfolding decode
+  decode-holds f =
+      ap₂ cutTexts (H .texts) ((λ i. cutStatements (H .heads i) (H .names i) (H .values i)) ∙ cut-statements (program s) f short)
+      ∙ cut-texts s short-texts
+
+  pub holds-sized : Sized m
+  holds-sized = record {
+    words = H .words;
+    texts = omega (arith, H .textCount=, H .fits .texts);
+    statements = omega (arith, H .statementCount=, H .fits .statements);
+    values = omega (arith, H .valueCount=, H .fits .values);
+  }
+
+  pub holds-sound : Legal s → Sound m
+  holds-sound L = record {
+    sizes = holds-sized;
+    labels = subst (λ (ws : List ℕ). Different (map upper ws)) (sym (H .texts)) (subst Different (sym (labels-laid s short-texts)) (L .labels));
+    names = subst (λ (hs : List ℕ). Named hs (nameWords m)) (sym (H .heads)) (subst (Named (map headWord (program s))) (sym (H .names)) (named-laid (program s) (L .statements)));
+    operators = subst (Each (λ h. upper h ≤ 1)) (sym (H .heads)) (operators-laid (program s) short);
+    counts = subst (Each (λ h. 1 ≤ lower h)) (sym (H .heads)) (counts-laid (program s) (L .statements) short);
+    values= = ap sum (H .heads) ∙ sum-heads (program s) short ∙ sym (H .valueCount=);
+    statements= = ap sum (H .texts) ∙ sum-texts s short-texts ∙ sym (H .statementCount=);
+    values = subst (Each (λ w. small w ≡ true)) (sym (H .values)) (small-laid (program s) (L .statements));
+  }
+
+-- ---- the memory's columns
+
+-- one word for each text
+abbrev pub perText : List (Column Text)
+perText = record { base = TEXTS-AT; end = HEADS-AT; lay = λ t. textWord t ∷ [] } ∷ []
+
+-- a head, a name and values for each statement
+abbrev pub perStatement : List (Column Statement)
+perStatement =
+    record { base = HEADS-AT; end = NAMES-AT; lay = λ x. headWord x ∷ [] }
+    ∷ record { base = NAMES-AT; end = VALUES-AT; lay = nameOf }
+    ∷ record { base = VALUES-AT; end = WORDS; lay = valuesOf }
+    ∷ []
+
+pub spaced-texts : Spaced TEXTS-AT perText
+spaced-texts = (omega arith, omega arith, tt)
+
+pub spaced-statements : Spaced HEADS-AT perStatement
+spaced-statements = (omega arith, omega arith, (omega arith, omega arith, (omega arith, omega arith, tt)))
+
+pub put-columns : (s : Pool) (m : List ℕ) → put s m ≡ over 0 (totals s) (putColumns perStatement (program s) (putColumns perText s m))
+unfolding put
+put-columns s m =
+    sym (λ i. over 0 (totals s) (over VALUES-AT (values s) (over NAMES-AT (flat nameOf (program s)) (over HEADS-AT (flat-map headWord (program s) i) (over TEXTS-AT (flat-map textWord s i) m)))))
+
+pub length-laid-texts : (s : Pool) → length (flat (λ t. textWord t ∷ []) s) ≡ length s
+length-laid-texts s = ap length (flat-map textWord s) ∙ length-map s textWord
+
+pub length-laid-heads : (ss : List Statement) → length (flat (λ x. headWord x ∷ []) ss) ≡ length ss
+length-laid-heads ss = ap length (flat-map headWord ss) ∙ length-map ss headWord
+
+pub room-texts : (s : Pool) → Fits s → Room perText s
+room-texts s F = (omega (arith, length-laid-texts s, F .texts), tt)
+
+pub room-statements : (s : Pool) → Fits s → Room perStatement (program s)
+room-statements s F =
+    (omega (arith, length-laid-heads (program s), F .statements), (omega (arith, length-laid-names (program s), F .statements), (omega (arith, F .values), tt)))
+
+-- an area that is read as so many words, and one in which words stand
+area-at : (o n : ℕ) (xs m : List ℕ) → n ≡ length xs → part o n m ≡ xs → At o xs m
+area-at o n xs m e p = ap (λ (k : ℕ). part o k m) (sym e) ∙ p
+
+at-area : (o n : ℕ) (xs m : List ℕ) → n ≡ length xs → At o xs m → part o n m ≡ xs
+at-area o n xs m e a = ap (λ (k : ℕ). part o k m) e ∙ a
+
+module _ (m : List ℕ) (s : Pool) (H : Holds m s) where
+  pub holds-texts : Stands perText s m
+  holds-texts = (area-at TEXTS-AT (textCount m) _ m (H .textCount= ∙ sym (length-laid-texts s)) (H .texts ∙ sym (flat-map textWord s)), tt)
+
+  pub holds-statements : Stands perStatement (program s) m
+  holds-statements = (
+    area-at HEADS-AT (statementCount m) _ m (H .statementCount= ∙ sym (length-laid-heads (program s))) (H .heads ∙ sym (flat-map headWord (program s))),
+    (
+      area-at NAMES-AT (NAMEWORDS * statementCount m) _ m (ap (λ (k : ℕ). NAMEWORDS * k) (H .statementCount=) ∙ sym (length-laid-names (program s))) (H .names),
+      (area-at VALUES-AT (valueCount m) _ m (H .valueCount=) (H .values), tt),
+    ),
+  )
+
+-- ---- a memory that was put into holds what was put
+
+-- the three totals are read back
+totals-at : (a b c : ℕ) (m : List ℕ) → At 0 (a ∷ b ∷ c ∷ []) m → (getD m 0 0 ≡ a) × (getD m 1 0 ≡ b) × (getD m 2 0 ≡ c)
+totals-at a b c m h = (
+  sym (getD-take 3 m 0 0 (lit< tt)) ∙ ap (λ (l : List ℕ). getD l 0 0) h,
+  sym (getD-take 3 m 1 0 (lit< tt)) ∙ ap (λ (l : List ℕ). getD l 1 0) h,
+  sym (getD-take 3 m 2 0 (lit< tt)) ∙ ap (λ (l : List ℕ). getD l 2 0) h,
+)
+
+module _ (s : Pool) (m : List ℕ) (F : Fits s) (n : length m ≡ WORDS) where
+  abbrev m₁ : List ℕ
+  m₁ = putColumns perText s m
+
+  abbrev m₂ : List ℕ
+  m₂ = putColumns perStatement (program s) m₁
+
+  abbrev m₃ : List ℕ
+  m₃ = over 0 (totals s) m₂
+
+  n₁ : length m₁ ≡ WORDS
+  n₁ = length-putColumns perText s m ∙ n
+
+  n₂ : length m₂ ≡ WORDS
+  n₂ = length-putColumns perStatement (program s) m₁ ∙ n₁
+
+  texts₃ : Stands perText s m₃
+  texts₃ =
+      let r = room-texts s F in
+      let a = put-stands perText s m TEXTS-AT spaced-texts r (omega (arith, n), tt) in
+      let b = at-putColumns perStatement (program s) m₁ HEADS-AT TEXTS-AT _ spaced-statements (r .0) (a .0) in
+      (at-after TEXTS-AT _ 0 (totals s) m₂ (omega arith) b, tt)
+
+  statements₃ : Stands perStatement (program s) m₃
+  statements₃ =
+      let w : Within (length m₁) perStatement = (omega (arith, n₁), (omega (arith, n₁), (omega (arith, n₁), tt))) in
+      stands-over perStatement (program s) m₂ HEADS-AT 0 (totals s) spaced-statements (omega arith)
+      (put-stands perStatement (program s) m₁ HEADS-AT spaced-statements (room-statements s F) w)
+
+  holds₃ : Holds m₃ s
+  holds₃ =
+      let z = totals-at (length s) (length (program s)) (length (values s)) m₃ (part-over 0 (totals s) m₂ (omega (arith, n₂))) in
+      let t = texts₃ in
+      let r = statements₃ in
+      record {
+        words = length-over 0 (totals s) m₂ ∙ n₂;
+        textCount= = z .0;
+        statementCount= = z .1;
+        valueCount= = z .2;
+        texts = at-area TEXTS-AT (textCount m₃) _ m₃ (z .0 ∙ sym (length-laid-texts s)) (t .0) ∙ flat-map textWord s;
+        heads = at-area HEADS-AT (statementCount m₃) _ m₃ (z .1 ∙ sym (length-laid-heads (program s))) (r .0) ∙ flat-map headWord (program s);
+        names = at-area NAMES-AT (NAMEWORDS * statementCount m₃) _ m₃ (ap (λ (k : ℕ). NAMEWORDS * k) (z .1) ∙ sym (length-laid-names (program s))) (r .1 .0);
+        values = at-area VALUES-AT (valueCount m₃) _ m₃ (z .2) (r .1 .1 .0);
+        fits = F;
+      }
+
+  pub put-holds : Holds (put s m) s
+  put-holds = subst (λ (x : List ℕ). Holds x s) (sym (put-columns s m)) holds₃
+
+  pub decode-put : Legal s → decode (put s m) ≡ s
+  decode-put L = decode-holds (put s m) s put-holds (L .statements)
+
+  pub put-sound : Legal s → sound (put s m) ≡ true
+  put-sound L = of-sound (put s m) (holds-sound (put s m) s put-holds L)
+
+  pub put-words : Legal s → Bounded s → Words m → Words (put s m)
+  unfolding put
+  put-words L B w =
+      let P : ℕ → Type 0 = λ x. x < WORD in
+      let t = words-texts s (B .labels) (each-short-text s (omega (arith, F .statements))) in
+      let h = words-heads (program s) (each-short (program s) (omega (arith, F .values))) in
+      let k = words-names (program s) (L .statements) in
+      let v = words-values (program s) (B .values) in
+      each-over P 0 (totals s) _ (omega (arith, F .texts), (omega (arith, F .statements), (omega (arith, F .values), tt)))
+      (each-over P VALUES-AT (values s) _ v (each-over P NAMES-AT (flat nameOf (program s)) _ k
+      (each-over P HEADS-AT (map headWord (program s)) _ h (each-over P TEXTS-AT (map textWord s) m t w))))

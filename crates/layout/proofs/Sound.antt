@@ -1,0 +1,125 @@
+-- What an undamaged memory is, as facts: each condition of document 01 one field. Assumes nothing.
+use mathlib.Core.Path.{_≡_, refl, sym, ap, _∙_}
+use mathlib.Core.Bool.{Bool, true, false, _&&_}
+use mathlib.Core.List.{List, [], _∷_, map}
+use Prim.Native.Nat.{ℕ, _≤_}
+use borrow.Author.Tests.{eqb-true, leb-true, eq-eqb, le-leb}
+use lib.Dec.{eqb, leb}
+use lib.ListN.{length, take, drop}
+use Rattle.plain.specs.Choice.{if_then_else_}
+use Rattle.words.specs.Halves.{upper, lower, sum, distinct, all}
+use Rattle.words.proofs.Tests.{both, first-then}
+use Rattle.words.proofs.Each.{Each, each-weaken, all-each, each-all}
+use Rattle.words.proofs.Halves.{Different, distinct-different, different-distinct}
+use Rattle.layout.specs.Limits.{TEXTS, STATEMENTS, VALUES, WORDS, NAMEWORDS}
+use Rattle.layout.specs.Names.{holdsName}
+use Rattle.layout.specs.Memory.{textCount, statementCount, valueCount, textWords, headWords, nameWords, valueWords}
+use Rattle.layout.specs.Damage.{Sized, sized, limited, labelled, named, operated, counted, grouped, bounded, small, allNamed, sound}
+
+-- each statement's four words hold a legal name
+abbrev pub Named : (heads names : List ℕ) → Type 0
+Named [] ns = Unit {0}
+Named (h ∷ hs) ns = (holdsName (take NAMEWORDS ns) ≡ true) × Named hs (drop NAMEWORDS ns)
+
+pub record Sound (m : List ℕ) : Type 0 where
+  pub sizes : Sized m
+  pub labels : Different (map upper (textWords m))
+  pub names : Named (headWords m) (nameWords m)
+  pub operators : Each (λ h. upper h ≤ 1) (headWords m)
+  pub counts : Each (λ h. 1 ≤ lower h) (headWords m)
+  pub values= : sum (headWords m) ≡ valueCount m
+  pub statements= : sum (textWords m) ≡ statementCount m
+  pub values : Each (λ w. small w ≡ true) (valueWords m)
+
+-- ---- the conditions in order
+
+-- those from each condition on
+abbrev pub from-groups : List ℕ → Bool
+from-groups m = grouped m && bounded m
+
+abbrev pub from-counts : List ℕ → Bool
+from-counts m = counted m && from-groups m
+
+abbrev pub from-operators : List ℕ → Bool
+from-operators m = operated m && from-counts m
+
+abbrev pub from-names : List ℕ → Bool
+from-names m = named m && from-operators m
+
+abbrev pub from-labels : List ℕ → Bool
+from-labels m = labelled m && from-names m
+
+abbrev pub from-limits : List ℕ → Bool
+from-limits m = limited m && from-labels m
+
+in-order : (s l a n o c g b : Bool) → (if s && l then a && n && o && c && g && b else false) ≡ s && (l && (a && (n && (o && (c && (g && b))))))
+in-order false l a n o c g b = refl
+in-order true false a n o c g b = refl
+in-order true true false n o c g b = refl
+in-order true true true false o c g b = refl
+in-order true true true true false c g b = refl
+in-order true true true true true false g b = refl
+in-order true true true true true true g b = refl
+
+pub sound-in-order : (m : List ℕ) → sound m ≡ sized m && from-limits m
+unfolding sound
+sound-in-order m = in-order (sized m) (limited m) (labelled m) (named m) (operated m) (counted m) (grouped m) (bounded m)
+
+pub sized-of : (m : List ℕ) → sized m ≡ true → limited m ≡ true → Sized m
+sized-of m e f =
+    let a = both (leb (textCount m) TEXTS && leb (statementCount m) STATEMENTS) (leb (valueCount m) VALUES) f in
+    let b = both (leb (textCount m) TEXTS) (leb (statementCount m) STATEMENTS) (a .0) in
+    record { words = eqb-true _ _ e; texts = leb-true _ _ (b .0); statements = leb-true _ _ (b .1); values = leb-true _ _ (a .1) }
+
+-- ---- names, from the test and back
+
+named-of : (hs ns : List ℕ) → allNamed hs ns ≡ true → Named hs ns
+unfolding allNamed
+named-of [] ns e = tt
+named-of (h ∷ hs) ns e =
+    let b = first-then (holdsName (take NAMEWORDS ns)) (allNamed hs (drop NAMEWORDS ns)) e in
+    (b .0, named-of hs (drop NAMEWORDS ns) (b .1))
+
+of-named : (hs ns : List ℕ) → Named hs ns → allNamed hs ns ≡ true
+unfolding allNamed
+of-named [] ns f = refl
+of-named (h ∷ hs) ns f = rw (f .0) (of-named hs (drop NAMEWORDS ns) (f .1))
+
+-- ---- the facts from the test, and back
+
+pub sound-of : (m : List ℕ) → sound m ≡ true → Sound m
+sound-of m e =
+    let z = both (sized m) (from-limits m) (sym (sound-in-order m) ∙ e) in
+    let l = both (limited m) (from-labels m) (z .1) in
+    let a = both (labelled m) (from-names m) (l .1) in
+    let n = both (named m) (from-operators m) (a .1) in
+    let o = both (operated m) (from-counts m) (n .1) in
+    let c = both (counted m) (from-groups m) (o .1) in
+    let d = both (all (λ h. leb 1 (lower h)) (headWords m)) (eqb (sum (headWords m)) (valueCount m)) (c .0) in
+    let g = both (grouped m) (bounded m) (c .1) in
+    record {
+      sizes = sized-of m (z .0) (l .0);
+      labels = distinct-different (textWords m) (a .0);
+      names = named-of (headWords m) (nameWords m) (n .0);
+      operators = each-weaken _ _ (λ h f. leb-true (upper h) 1 f) (headWords m) (all-each (λ h. leb (upper h) 1) (headWords m) (o .0));
+      counts = each-weaken _ _ (λ h f. leb-true 1 (lower h) f) (headWords m) (all-each (λ h. leb 1 (lower h)) (headWords m) (d .0));
+      values= = eqb-true _ _ (d .1);
+      statements= = eqb-true _ _ (g .0);
+      values = all-each small (valueWords m) (g .1);
+    }
+
+pub of-sound : (m : List ℕ) → Sound m → sound m ≡ true
+of-sound m S =
+    let z = S .sizes in
+    let s : sized m ≡ true = eq-eqb (length m) WORDS (z .words) in
+    let x : leb (textCount m) TEXTS ≡ true = le-leb _ _ (z .texts) in
+    let y : leb (statementCount m) STATEMENTS ≡ true = le-leb _ _ (z .statements) in
+    let v : leb (valueCount m) VALUES ≡ true = le-leb _ _ (z .values) in
+    let a : labelled m ≡ true = different-distinct (textWords m) (S .labels) in
+    let n : named m ≡ true = of-named (headWords m) (nameWords m) (S .names) in
+    let o : operated m ≡ true = each-all (λ h. leb (upper h) 1) (headWords m) (each-weaken _ _ (λ h f. le-leb (upper h) 1 f) (headWords m) (S .operators)) in
+    let c : all (λ h. leb 1 (lower h)) (headWords m) ≡ true = each-all (λ h. leb 1 (lower h)) (headWords m) (each-weaken _ _ (λ h f. le-leb 1 (lower h) f) (headWords m) (S .counts)) in
+    let d : eqb (sum (headWords m)) (valueCount m) ≡ true = eq-eqb _ _ (S .values=) in
+    let g : grouped m ≡ true = eq-eqb _ _ (S .statements=) in
+    let b : bounded m ≡ true = each-all small (valueWords m) (S .values) in
+    sound-in-order m ∙ (λ i. s i && (x i && y i && v i && (a i && (n i && (o i && (c i && d i && (g i && b i)))))))

@@ -1,0 +1,174 @@
+// "A pool is damaged exactly when one of these fails": one function for each condition, in document 01's order.
+use crate::area::heads_of;
+use crate::area::names_of;
+use crate::area::texts_of;
+use crate::area::values_of;
+use crate::legible::all_named;
+use crate::limits::HALF;
+use crate::limits::STATEMENT_COUNT;
+use crate::limits::STATEMENTS;
+use crate::limits::TEXT_COUNT;
+use crate::limits::TEXTS;
+use crate::limits::VALUE_COUNT;
+use crate::limits::VALUES;
+use crate::limits::WORDS;
+use words::scan::all_distinct;
+use words::scan::sum_lower;
+ghost use mathlib.Core.Path.{_≡_};
+ghost use Prim.Native.Nat.{_≤_, _<_};
+ghost use lib.Dec.{leb};
+ghost use lib.ListN.{length};
+ghost use Rattle.words.specs.Halves.{all, upper, lower};
+ghost use Rattle.layout.specs.Limits.{TEXTS-AT};
+ghost use Rattle.layout.specs.Damage.{Sized, sound, sized, limited, labelled, named, operated, counted, grouped, bounded, small};
+
+// 2^52, above which a double has its exponent's field, 11 bits wide.
+const FRACTION: u64 = 4503599627370496;
+
+const FIELD: u64 = 2048;
+
+// The field of 2^200: 1023 + 200.
+const LARGE: u64 = 1223;
+
+// The memory is not damaged.
+pub fn is_sound(m: &[u64]) -> bool
+    ensures { λ r. ⌜ r ≡ sound (now (m .entry)) ⌝ }
+{
+    if !is_sized(m) {
+        return false;
+    }
+    if !is_limited(m) {
+        return false;
+    }
+    if !is_labelled(m) {
+        return false;
+    }
+    if !is_named(m) {
+        return false;
+    }
+    if !is_operated(m) {
+        return false;
+    }
+    if !is_counted(m) {
+        return false;
+    }
+    if !is_grouped(m) {
+        return false;
+    }
+    is_bounded(m)
+}
+
+// "memory of the fixed size"
+fn is_sized(m: &[u64]) -> bool
+    ensures { λ r. ⌜ r ≡ sized (now (m .entry)) ⌝ }
+{
+    m.len() == WORDS
+}
+
+// "totals within the limits"
+fn is_limited(m: &[u64]) -> bool
+    requires { ⌜ TEXTS-AT ≤ length (now m) ⌝ }
+    ensures { λ r. ⌜ r ≡ limited (now (m .entry)) ⌝ }
+{
+    if TEXTS < m[TEXT_COUNT] {
+        return false;
+    }
+    if STATEMENTS < m[STATEMENT_COUNT] {
+        return false;
+    }
+    m[VALUE_COUNT] <= VALUES
+}
+
+// "labels distinct"
+fn is_labelled(m: &[u64]) -> bool
+    requires { ⌜ Sized (now m) ⌝ }
+    ensures { λ r. ⌜ r ≡ labelled (now (m .entry)) ⌝ }
+{
+    all_distinct(texts_of(m))
+}
+
+// "names .. legal"
+fn is_named(m: &[u64]) -> bool
+    requires { ⌜ Sized (now m) ⌝ }
+    ensures { λ r. ⌜ r ≡ named (now (m .entry)) ⌝ }
+{
+    all_named(heads_of(m), names_of(m))
+}
+
+// "operators legal"
+fn is_operated(m: &[u64]) -> bool
+    requires { ⌜ Sized (now m) ⌝ }
+    ensures { λ r. ⌜ r ≡ operated (now (m .entry)) ⌝ }
+{
+    all_operated(heads_of(m))
+}
+
+// "every statement's count at least 1 and the counts adding up to the total"
+fn is_counted(m: &[u64]) -> bool
+    requires { ⌜ Sized (now m) ⌝ }
+    ensures { λ r. ⌜ r ≡ counted (now (m .entry)) ⌝ }
+{
+    let heads = heads_of(m);
+    if !all_filled(heads) {
+        return false;
+    }
+    sum_lower(heads) == m[VALUE_COUNT]
+}
+
+// "statements grouped by text in load order, each under a held label"
+fn is_grouped(m: &[u64]) -> bool
+    requires { ⌜ Sized (now m) ⌝ }
+    ensures { λ r. ⌜ r ≡ grouped (now (m .entry)) ⌝ }
+{
+    sum_lower(texts_of(m)) == m[STATEMENT_COUNT]
+}
+
+// "every held value finite and of size below 2^200"
+fn is_bounded(m: &[u64]) -> bool
+    requires { ⌜ Sized (now m) ⌝ }
+    ensures { λ r. ⌜ r ≡ bounded (now (m .entry)) ⌝ }
+{
+    all_small(values_of(m))
+}
+
+// Every operator's number is 0 or 1.
+fn all_operated(heads: &[u64]) -> bool
+    ensures { λ r. ⌜ r ≡ all (λ h. leb (upper h) 1) (now (heads .entry)) ⌝ }
+{
+    let mut i = 0;
+    while i < heads.len() {
+        if 1 < heads[i] / HALF {
+            return false;
+        }
+        i += 1;
+    }
+    true
+}
+
+// Every statement has a value.
+fn all_filled(heads: &[u64]) -> bool
+    ensures { λ r. ⌜ r ≡ all (λ h. leb 1 (lower h)) (now (heads .entry)) ⌝ }
+{
+    let mut i = 0;
+    while i < heads.len() {
+        if heads[i] % HALF < 1 {
+            return false;
+        }
+        i += 1;
+    }
+    true
+}
+
+// Every value is finite and below 2^200 in size.
+fn all_small(values: &[u64]) -> bool
+    ensures { λ r. ⌜ r ≡ all small (now (values .entry)) ⌝ }
+{
+    let mut i = 0;
+    while i < values.len() {
+        if LARGE <= values[i] / FRACTION % FIELD {
+            return false;
+        }
+        i += 1;
+    }
+    true
+}

@@ -1,0 +1,96 @@
+// "names .. legal": words that hold a name's bytes from the most significant down, and zeros after it.
+use crate::limits::NAMEWORDS;
+use words::scan::all_zero;
+ghost use mathlib.Core.Path.{_≡_};
+ghost use Prim.Native.Nat.{_*_, _≤_, _<_};
+ghost use lib.Dec.{eqb};
+ghost use lib.ListN.{length};
+ghost use Rattle.plain.specs.Runs.{skip};
+ghost use Rattle.text.specs.Classes.{nameByte};
+ghost use Rattle.words.specs.Halves.{all};
+ghost use Rattle.layout.specs.Limits.{NAMEWORDS};
+ghost use Rattle.layout.specs.Names.{bytesOf, bytes, holdsName};
+ghost use Rattle.layout.specs.Damage.{allNamed};
+
+// The place of a word's highest byte, 2^56.
+const HIGHEST: u64 = 72057594037927936;
+
+const BYTE: u64 = 256;
+
+// The name bytes as bits of two words: those below 64, which are the digits, and those from 64 on.
+const DIGITS: u64 = 0x03ff000000000000;
+
+const LETTERS: u64 = 0x07fffffe87fffffe;
+
+// Every statement's four words hold a legal name.
+pub fn all_named(heads: &[u64], names: &[u64]) -> bool
+    requires { ⌜ NAMEWORDS * length (now heads) ≤ length (now names) ⌝ }
+    ensures { λ r. ⌜ r ≡ allNamed (now (heads .entry)) (now (names .entry)) ⌝ }
+{
+    let mut i = 0;
+    while i < heads.len() {
+        let at = NAMEWORDS * i;
+        i += 1;
+        let end = NAMEWORDS * i;
+        if !holds_name(&names[at..end]) {
+            return false;
+        }
+    }
+    true
+}
+
+// The words hold a legal name, and zeros after it.
+fn holds_name(ws: &[u64]) -> bool
+    ensures { λ r. ⌜ r ≡ holdsName (now (ws .entry)) ⌝ }
+{
+    if ws.len() == 0 {
+        return false;
+    }
+    if !is_name_byte(ws[0] / HIGHEST) {
+        return false;
+    }
+    all_taper(ws)
+}
+
+// The words hold name bytes, and zeros after them: from a word on whose last byte is zero, every word is.
+fn all_taper(ws: &[u64]) -> bool
+    ensures { λ r. ⌜ r ≡ all (eqb 0) (skip nameByte (bytes (now (ws .entry)))) ⌝ }
+{
+    let mut i = 0;
+    while i < ws.len() {
+        let w = ws[i];
+        i += 1;
+        if !tapers(w) {
+            return false;
+        }
+        if w % BYTE == 0 {
+            return all_zero(&ws[i..]);
+        }
+    }
+    true
+}
+
+// The word holds name bytes, and zeros after them: it is shifted up while a name byte is highest.
+fn tapers(w: u64) -> bool
+    ensures { λ r. ⌜ r ≡ all (eqb 0) (skip nameByte (bytesOf w)) ⌝ }
+{
+    let mut rest = w;
+    while is_name_byte(rest / HIGHEST) {
+        rest = rest % HIGHEST * BYTE;
+    }
+    rest == 0
+}
+
+// A letter, digit or underscore.
+fn is_name_byte(b: u64) -> bool
+    requires { ⌜ b < 256 ⌝ }
+    ensures { λ r. ⌜ r ≡ nameByte b ⌝ }
+{
+    if b < 64 {
+        return (DIGITS >> b) % 2 == 1;
+    }
+    if b < 128 {
+        return (LETTERS >> (b - 64)) % 2 == 1;
+    }
+    false
+}
