@@ -6,13 +6,13 @@ use twin::layout::WORDS;
 use twin::pool::{load, make_empty};
 use twin::refusal::{Refusal, Refused};
 
-const PLANETS: &[u8] = include_bytes!("../kernels/planets.tpc");
-const RADII: &[u8] = include_bytes!("../kernels/radii.tpc");
-const MOON: &[u8] = include_bytes!("../kernels/moon.tpc");
-const MARS_MOONS: &[u8] = include_bytes!("../kernels/mars-moons.tpc");
-const TRITON: &[u8] = include_bytes!("../kernels/triton.tpc");
-const EXAMPLE: &[u8] = include_bytes!("../kernels/mars-example.tpc");
-const EXAMPLE_SHORT: &[u8] = include_bytes!("../kernels/mars-example-short.tpc");
+const PLANETS: &[u8] = include_bytes!("../../../examples/kernels/planets.tpc");
+const RADII: &[u8] = include_bytes!("../../../examples/kernels/radii.tpc");
+const MOON: &[u8] = include_bytes!("../../../examples/kernels/moon.tpc");
+const MARS_MOONS: &[u8] = include_bytes!("../../../examples/kernels/mars-moons.tpc");
+const TRITON: &[u8] = include_bytes!("../../../examples/kernels/triton.tpc");
+const EXAMPLE: &[u8] = include_bytes!("../../../examples/kernels/mars-example.tpc");
+const EXAMPLE_SHORT: &[u8] = include_bytes!("../../../examples/kernels/mars-example-short.tpc");
 
 const BODIES: [u32; 10] = [10, 199, 299, 399, 499, 599, 699, 799, 899, 999];
 const EPOCHS: [f64; 6] = [

@@ -4,13 +4,13 @@
 use super::random::Random;
 
 const KERNELS: [&[u8]; 7] = [
-    include_bytes!("../../kernels/planets.tpc"),
-    include_bytes!("../../kernels/radii.tpc"),
-    include_bytes!("../../kernels/moon.tpc"),
-    include_bytes!("../../kernels/mars-moons.tpc"),
-    include_bytes!("../../kernels/triton.tpc"),
-    include_bytes!("../../kernels/mars-example.tpc"),
-    include_bytes!("../../kernels/mars-example-short.tpc"),
+    include_bytes!("../../../../examples/kernels/planets.tpc"),
+    include_bytes!("../../../../examples/kernels/radii.tpc"),
+    include_bytes!("../../../../examples/kernels/moon.tpc"),
+    include_bytes!("../../../../examples/kernels/mars-moons.tpc"),
+    include_bytes!("../../../../examples/kernels/triton.tpc"),
+    include_bytes!("../../../../examples/kernels/mars-example.tpc"),
+    include_bytes!("../../../../examples/kernels/mars-example-short.tpc"),
 ];
 
 /// How many mixtures follow the written texts.

@@ -1,0 +1,195 @@
+/*
+ * globe.h: where the Sun, the planets and their satellites point, from SPICE text PCK kernels or
+ * from a built-in table.
+ *
+ * The pool. A pool holds up to 16 texts, each under a label, with 512 statements and 3,072 values.
+ * It is memory of GLOBE_POOL_WORDS words that the caller lends at each call, made a pool once by
+ * globe_make_empty. The library keeps nothing between calls, asks for no memory, and reads and
+ * writes nothing but what is lent to it. So calls on different pools may run at the same time, and
+ * so may calls that take the same pool as const.
+ *
+ * Lent memory. Each pointer goes with the number of elements behind it, and must not be NULL unless
+ * that number is 0. With 0 it is not looked at, and NULL stands for an empty slice: an empty text,
+ * an empty name, a buffer without room. The pool, text, name and buffer of one call must not
+ * overlap, and each is aligned for its type.
+ *
+ * Answers. Each answer has a number, 0 or that of a refusal, and a line, counted from 1: the faulty
+ * line of the text for the refusals 3 to 6, and 0 otherwise. The values and counts of a refused
+ * answer are zeros. A refused call leaves every byte of the pool and of the buffer as it was. Where
+ * several refusals apply, the answer is the one that is asked first; below, each call has its
+ * refusals in that order.
+ *
+ * Epochs are TDB seconds past J2000, which is JD 2451545.0 TDB (source document 001). Body codes
+ * are NAIF codes; those with a meaning here are 1 to 10 and 100 to 999. A negative code, passed as
+ * unsigned, is no such code and is refused 10.
+ *
+ * Link with libglobe_c.a and the C library's mathematics (-lm).
+ */
+#ifndef GLOBE_H
+#define GLOBE_H
+
+#include <stddef.h>
+#include <stdint.h>
+
+#ifdef __cplusplus
+extern "C" {
+#endif
+
+/*
+ * The words of a pool, for memory that is laid out at compile time; globe_pool_words tells what the
+ * linked library wants.
+ */
+#define GLOBE_POOL_WORDS 5651
+
+/*
+ * The most bytes of a text, and the most values of a variable: a buffer of so many is never too
+ * short.
+ */
+#define GLOBE_TEXT_BYTES 65536
+#define GLOBE_VALUES 3072
+
+/* The numbers of answers. */
+enum globe_number {
+    GLOBE_OK = 0,            /* not refused */
+    GLOBE_LABEL_HELD = 1,    /* the label is held already */
+    GLOBE_TEXT_TOO_LONG = 2, /* the text has over 65,536 bytes */
+    GLOBE_LINE_TOO_LONG = 3, /* the line has over 79 bytes, its end not counted */
+    GLOBE_BAD_BYTE = 4,      /* the data line has a byte that is neither 32 to 126 nor a tab */
+    GLOBE_SYNTAX = 5,        /* the data line is no statement, or breaks one */
+    GLOBE_NUMBER = 6,        /* a number has too many digits, or too large a power of ten */
+    GLOBE_NO_ROOM = 7,       /* held and new exceed 16 texts, 512 statements or 3,072 values */
+    GLOBE_NOT_HELD = 8,      /* the label is not held */
+    GLOBE_EPOCH = 9,         /* the epoch is not finite, or over 157,788,000,000 s from J2000 */
+    GLOBE_UNKNOWN_BODY = 10, /* no such code, or the source has nothing of what is asked */
+    GLOBE_INCOMPLETE = 11,   /* some of the variables that the orientation wants are missing */
+    GLOBE_WRONG_COUNT = 12,  /* a variable has too few or too many values for what is asked */
+    GLOBE_NO_VARIABLE = 13,  /* no held statement has that name */
+    GLOBE_SHORT_BUFFER = 14, /* the buffer is shorter than the variable */
+    GLOBE_DAMAGED_POOL = 15  /* the size is wrong, or the words are not those of a pool */
+};
+
+/* Done, or refused. */
+typedef struct {
+    uint32_t number, line;
+} globe_reply;
+
+/* How many values were written to the buffer. */
+typedef struct {
+    uint32_t number, line, count;
+} globe_fetched;
+
+/* How many texts, statements and values are held. */
+typedef struct {
+    uint32_t number, line, texts, statements, values;
+} globe_counts;
+
+/*
+ * An orientation: right ascension ra and declination dec of the north pole and the prime meridian
+ * w, in degrees, ra and w from 0 up to 360, and the matrix from inertial to body-fixed axes, row by
+ * row.
+ */
+typedef struct {
+    uint32_t number, line;
+    double ra, dec, w, m11, m12, m13, m21, m22, m23, m31, m32, m33;
+} globe_oriented;
+
+/*
+ * Three radii, in the order of the variable: in a kernel the two equatorial ones, then the polar
+ * one, in km.
+ */
+typedef struct {
+    uint32_t number, line;
+    double a, b, c;
+} globe_axes;
+
+/* The words that the linked library wants of a pool. It is never refused. */
+size_t globe_pool_words(void);
+
+/*
+ * Makes memory an empty pool, whatever it held.
+ * Refused: 15 DAMAGED POOL, if words is not globe_pool_words(); the content is not looked at.
+ * It writes the totals; words that are out of use keep what they held.
+ */
+globe_reply globe_make_empty(uint64_t *pool, size_t words);
+
+/*
+ * Loads a text of so many bytes under a label, any number. Its statements come after those of the
+ * texts loaded before it.
+ * Refused: 15 DAMAGED POOL; 1 LABEL HELD; 2 TEXT TOO LONG; then, for the first faulty line, which
+ * the answer tells, 3 LINE TOO LONG, 4 BAD BYTE, and whichever of 5 SYNTAX and 6 NUMBER starts at
+ * the earlier byte; 7 NO ROOM.
+ * The text is only read. A text of no statements is loaded too, and takes a label.
+ */
+globe_reply globe_load(uint64_t *pool, size_t words, uint32_t label, const uint8_t *text,
+                       size_t bytes);
+
+/*
+ * Takes out the text under a label: the pool then answers as if that text had never been loaded,
+ * and has its room again.
+ * Refused: 15 DAMAGED POOL; 8 NOT HELD.
+ */
+globe_reply globe_remove(uint64_t *pool, size_t words, uint32_t label);
+
+/*
+ * Takes out all texts.
+ * Refused: 15 DAMAGED POOL (globe_make_empty mends a pool of the right size).
+ * It writes the totals; words that are out of use keep what they held.
+ */
+globe_reply globe_clear(uint64_t *pool, size_t words);
+
+/*
+ * Writes the values of a variable from the buffer's start and tells how many they are: the values
+ * of its last direct assignment among the held texts, if there is one, and of all that is appended
+ * after it. room is counted in doubles, name_bytes in bytes; the name needs no 0 at its end, and
+ * its case counts.
+ * Refused: 15 DAMAGED POOL; 13 NO VARIABLE, also for bytes that are no name; 14 SHORT BUFFER.
+ * The pool and the name are only read; the buffer keeps what stands after the values.
+ */
+globe_fetched globe_fetch(const uint64_t *pool, size_t words, const uint8_t *name,
+                          size_t name_bytes, double *buffer, size_t room);
+
+/*
+ * Tells how many texts, statements and values are held.
+ * Refused: 15 DAMAGED POOL.
+ * The pool is only read.
+ */
+globe_counts globe_totals(const uint64_t *pool, size_t words);
+
+/*
+ * The orientation of a body at an epoch, by the variables of the pool and by nothing else.
+ * Refused: 15 DAMAGED POOL; 9 EPOCH; 10 UNKNOWN BODY, for a code that has no meaning or a body n of
+ * which none of BODYn_POLE_RA, BODYn_POLE_DEC and BODYn_PM is held; 11 INCOMPLETE, if only some of
+ * these are held, or one of BODYn_NUT_PREC_RA, _DEC and _PM without BODYs_NUT_PREC_ANGLES (s is the
+ * hundreds of n, or n itself up to 10); 12 WRONG COUNT, if one of the first three has over 3
+ * values, or the angles are asked for and are odd in number, over 64 or fewer than twice the
+ * longest of the terms.
+ * The pool is only read.
+ */
+globe_oriented globe_orientation(const uint64_t *pool, size_t words, uint32_t body, double epoch);
+
+/*
+ * The orientation of a body at an epoch, by the built-in table: the Sun, 10, and the planets, 199,
+ * 299 and so on to 999.
+ * Refused: 9 EPOCH; 10 UNKNOWN BODY, for every other code.
+ */
+globe_oriented globe_builtin_orientation(uint32_t body, double epoch);
+
+/*
+ * The radii of a body, by the variable BODYn_RADII of the pool and by nothing else.
+ * Refused: 15 DAMAGED POOL; 10 UNKNOWN BODY, for a code that has no meaning or a variable that is
+ * not held; 12 WRONG COUNT, if it has not three values.
+ * The pool is only read.
+ */
+globe_axes globe_radii(const uint64_t *pool, size_t words, uint32_t body);
+
+/*
+ * The radii of a planet in km, by the built-in table: 199, 299 and so on to 999.
+ * Refused: 10 UNKNOWN BODY, for every other code, also for the Sun.
+ */
+globe_axes globe_builtin_radii(uint32_t body);
+
+#ifdef __cplusplus
+}
+#endif
+
+#endif

@@ -1,0 +1,19 @@
+//! `cargo run --release -p bench`: the library's times against those of the twin doing the same
+//! work, and what the library asks of a small machine, as the tables of docs/BENCHMARKS.md.
+
+mod facts;
+mod library;
+mod probes;
+mod stack;
+mod table;
+mod texts;
+mod timing;
+mod work;
+
+fn main() {
+    println!("## Times\n");
+    println!("{}\n", facts::machine());
+    table::print_times(&work::measured());
+    println!("\n## Firmware facts\n");
+    facts::print();
+}

@@ -1,0 +1,83 @@
+//! The texts that are measured.
+
+use std::fmt::Write;
+
+/// The bodies of a system, their angles, and the variables that nobody asks for: 32 statements with
+/// 192 values, so that sixteen systems fill a pool to its limits.
+const BODIES: u32 = 3;
+const ANGLES: usize = 13;
+const OTHERS: usize = 10;
+
+/// A body of a system; the first one is what is asked for.
+pub fn body(system: u32, place: u32) -> u32 {
+    100 * (system % 9 + 1) + 3 * (system / 9) + place
+}
+
+/// A text about a system: its angles, its bodies with pole, meridian, terms and radii, and more.
+pub fn system(system: u32) -> String {
+    let mut text = String::from("KPL/PCK\n\nA system of bodies.\n\n\\begindata\n\n");
+    let angles = system % 9 + 1;
+    add(
+        &mut text,
+        &format!("BODY{angles}_NUT_PREC_ANGLES"),
+        2 * ANGLES,
+    );
+    for place in 0..BODIES {
+        add_body(&mut text, body(system, place));
+    }
+    // Ten variables with thirteen values.
+    for place in 0..OTHERS {
+        let count = if place < 3 { 2 } else { 1 };
+        add(&mut text, &format!("SYSTEM{system}_OTHER{place}"), count);
+    }
+    text.push_str("\n\\begintext\n");
+    text
+}
+
+/// The bytes of a text that is like a published kernel in its share of comments, and as long.
+const KERNEL_BYTES: usize = 60_000;
+
+/// A text like a published kernel: half of it comments.
+pub fn kernel() -> String {
+    const COMMENT: &str =
+        "     Values of this body are those of the report; rates are per century.\n";
+    let mut text = String::from("KPL/PCK\n\n");
+    let mut body = 100;
+    while text.len() < KERNEL_BYTES {
+        text.push_str("\\begintext\n\n");
+        let mut section = String::from("\n\\begindata\n\n");
+        add_body(&mut section, body);
+        text.push_str(&COMMENT.repeat(section.len() / COMMENT.len()));
+        text.push_str(&section);
+        body += 1;
+    }
+    text.truncate(text[..KERNEL_BYTES].rfind("\\begintext").unwrap_or(0));
+    text
+}
+
+fn add_body(text: &mut String, body: u32) {
+    for (word, count) in [
+        ("POLE_RA", 3),
+        ("POLE_DEC", 3),
+        ("PM", 3),
+        ("NUT_PREC_RA", ANGLES),
+        ("NUT_PREC_DEC", ANGLES),
+        ("NUT_PREC_PM", ANGLES),
+        ("RADII", 3),
+    ] {
+        add(text, &format!("BODY{body}_{word}"), count);
+    }
+}
+
+/// A statement in the layout of published kernels, four values a line.
+fn add(text: &mut String, name: &str, count: usize) {
+    write!(text, "{name:<22}= (").expect("a string grows");
+    for place in 0..count {
+        if place > 0 && place % 4 == 0 {
+            write!(text, "\n{:25}", "").expect("a string grows");
+        }
+        let value = 269.9949 - 37.06 * place as f64;
+        write!(text, " {value:>11.5}").expect("a string grows");
+    }
+    text.push_str(" )\n");
+}

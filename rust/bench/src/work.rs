@@ -1,0 +1,208 @@
+//! What is measured: each call, on pools that hold 1, 6 and 16 texts. Questions are about the text
+//! that was loaded first, and removals take that one out, so that all others stand after it.
+
+use std::hint::black_box;
+
+use twin::layout::WORDS;
+use twin::{answers, builtin, pool};
+
+use crate::library;
+use crate::texts::{body, kernel, system};
+use crate::timing::{medians, Restore, Side};
+
+/// The most that a call may take, in times of the twin.
+const LOAD_GOAL: f64 = 2.0;
+const ORIENTATION_GOAL: f64 = 1.5;
+const OTHER_GOAL: f64 = 3.0;
+
+/// The texts that are held, one after another.
+const HELD: [u32; 3] = [1, 6, 16];
+
+/// What is asked for.
+const EPOCH: f64 = 123_456_789.125;
+const NAME: &[u8] = b"BODY100_NUT_PREC_RA";
+
+/// One call, measured.
+pub struct Row {
+    pub call: &'static str,
+    /// The texts that are held, the one that the call loads included.
+    pub texts: Option<u32>,
+    /// The bytes of the text that is loaded.
+    pub bytes: Option<usize>,
+    /// In ns a call.
+    pub library: f64,
+    pub twin: f64,
+    pub goal: f64,
+}
+
+/// A call on both sides.
+struct Work<'a> {
+    call: &'static str,
+    goal: f64,
+    restore: Restore,
+    library: &'a mut dyn FnMut(&mut [u64]),
+    twin: &'a mut dyn FnMut(&mut [u64]),
+}
+
+impl Work<'_> {
+    fn on(self, start: &[u64], texts: Option<u32>, bytes: Option<usize>) -> Row {
+        let (library, twin) = medians(
+            Side::new(start, self.restore, self.library),
+            Side::new(start, self.restore, self.twin),
+        );
+        Row {
+            call: self.call,
+            texts,
+            bytes,
+            library,
+            twin,
+            goal: self.goal,
+        }
+    }
+}
+
+/// All rows, in the order of the table.
+pub fn measured() -> Vec<Row> {
+    let mut rows = vec![loaded("load a kernel", 0, &kernel())];
+    rows.extend(HELD.map(|texts| loaded("load a system", texts - 1, &system(texts - 1))));
+    for measure in [removed, cleared, fetched, counted, oriented, sized] {
+        rows.extend(HELD.map(measure));
+    }
+    rows.push(oriented_by_table());
+    rows.push(sized_by_table());
+    rows
+}
+
+/// A pool that holds the first systems, labelled from 0 on.
+pub fn pool_of(texts: u32) -> Vec<u64> {
+    let mut words = vec![0; WORDS];
+    pool::make_empty(&mut words).expect("memory of a pool's size");
+    for label in 0..texts {
+        let text = system(label);
+        pool::load(&mut words, label, text.as_bytes()).expect("a right text");
+    }
+    words
+}
+
+fn loaded(call: &'static str, held: u32, text: &str) -> Row {
+    let text = text.as_bytes();
+    Work {
+        call,
+        goal: LOAD_GOAL,
+        restore: Restore::Totals,
+        library: &mut |words| assert_eq!(library::load(words, held, black_box(text)), 0),
+        twin: &mut |words| assert_eq!(pool::load(words, held, black_box(text)), Ok(())),
+    }
+    .on(&pool_of(held), Some(held + 1), Some(text.len()))
+}
+
+fn removed(texts: u32) -> Row {
+    Work {
+        call: "remove",
+        goal: OTHER_GOAL,
+        restore: Restore::All,
+        library: &mut |words| assert_eq!(library::remove(words, black_box(0)), 0),
+        twin: &mut |words| assert_eq!(pool::remove(words, black_box(0)), Ok(())),
+    }
+    .on(&pool_of(texts), Some(texts), None)
+}
+
+fn cleared(texts: u32) -> Row {
+    Work {
+        call: "clear",
+        goal: OTHER_GOAL,
+        restore: Restore::Totals,
+        library: &mut |words| assert_eq!(library::clear(words), 0),
+        twin: &mut |words| assert_eq!(pool::clear(words), Ok(())),
+    }
+    .on(&pool_of(texts), Some(texts), None)
+}
+
+fn fetched(texts: u32) -> Row {
+    let (mut ours, mut theirs) = ([0.0; 13], [0.0; 13]);
+    Work {
+        call: "fetch 13 values",
+        goal: OTHER_GOAL,
+        restore: Restore::Nothing,
+        library: &mut |words| assert_eq!(library::fetch(words, black_box(NAME), &mut ours), 13),
+        twin: &mut |words| assert_eq!(pool::fetch(words, black_box(NAME), &mut theirs), Ok(13)),
+    }
+    .on(&pool_of(texts), Some(texts), None)
+}
+
+fn counted(texts: u32) -> Row {
+    Work {
+        call: "totals",
+        goal: OTHER_GOAL,
+        restore: Restore::Nothing,
+        library: &mut |words| assert_eq!(library::totals(words), 192 * texts),
+        twin: &mut |words| assert!(pool::totals(words).is_ok()),
+    }
+    .on(&pool_of(texts), Some(texts), None)
+}
+
+fn oriented(texts: u32) -> Row {
+    let body = body(0, 0);
+    Work {
+        call: "orientation, 13 angles",
+        goal: ORIENTATION_GOAL,
+        restore: Restore::Nothing,
+        library: &mut |words| {
+            assert_eq!(
+                library::orientation(words, body, black_box(EPOCH)).number,
+                0
+            )
+        },
+        twin: &mut |words| assert!(answers::orientation(words, body, black_box(EPOCH)).is_ok()),
+    }
+    .on(&pool_of(texts), Some(texts), None)
+}
+
+fn sized(texts: u32) -> Row {
+    let body = body(0, 0);
+    Work {
+        call: "radii",
+        goal: OTHER_GOAL,
+        restore: Restore::Nothing,
+        library: &mut |words| assert_eq!(library::radii(words, black_box(body)).number, 0),
+        twin: &mut |words| assert!(answers::radii(words, black_box(body)).is_ok()),
+    }
+    .on(&pool_of(texts), Some(texts), None)
+}
+
+fn oriented_by_table() -> Row {
+    Work {
+        call: "orientation, built in",
+        goal: ORIENTATION_GOAL,
+        restore: Restore::Nothing,
+        library: &mut |_| {
+            black_box(globe_sys::globe_builtin_orientation(
+                black_box(899),
+                black_box(EPOCH),
+            ));
+        },
+        twin: &mut |_| {
+            black_box(builtin::builtin_orientation(
+                black_box(899),
+                black_box(EPOCH),
+            ))
+            .ok();
+        },
+    }
+    .on(&[], None, None)
+}
+
+fn sized_by_table() -> Row {
+    Work {
+        call: "radii, built in",
+        goal: OTHER_GOAL,
+        restore: Restore::Nothing,
+        library: &mut |_| {
+            black_box(globe_sys::globe_builtin_radii(black_box(499)));
+        },
+        twin: &mut |_| {
+            black_box(builtin::builtin_radii(black_box(499))).ok();
+        },
+    }
+    .on(&[], None, None)
+}

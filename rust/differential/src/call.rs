@@ -1,0 +1,93 @@
+//! One call and its answer, in a shape that both sides share.
+
+use std::fmt;
+
+/// A call on a pool, or on the built-in source.
+pub enum Call<'a> {
+    MakeEmpty,
+    Load { label: u32, text: &'a [u8] },
+    Remove { label: u32 },
+    Clear,
+    Fetch { name: &'a [u8], room: usize },
+    Totals,
+    Orientation { body: u32, epoch: f64 },
+    BuiltinOrientation { body: u32, epoch: f64 },
+    Radii { body: u32 },
+    BuiltinRadii { body: u32 },
+}
+
+impl Call<'_> {
+    /// Whether it may change a pool.
+    pub fn writes(&self) -> bool {
+        matches!(
+            self,
+            Call::MakeEmpty | Call::Load { .. } | Call::Remove { .. } | Call::Clear
+        )
+    }
+}
+
+/// Every field of an answer; what it does not have is 0.
+#[derive(Clone, Copy, Debug, Default, PartialEq, Eq)]
+pub struct Answer {
+    pub number: u32,
+    pub line: u32,
+    /// What fetch or totals count.
+    pub counts: [u32; 3],
+    /// The bits of an orientation or of radii.
+    pub bits: [u64; 12],
+}
+
+impl Answer {
+    /// An answer of numbers alone.
+    pub fn of(number: u32, line: u32) -> Answer {
+        Answer {
+            number,
+            line,
+            ..Answer::default()
+        }
+    }
+
+    /// The same with counts.
+    pub fn with_counts(self, counts: [u32; 3]) -> Answer {
+        Answer { counts, ..self }
+    }
+
+    /// The same with the bits of doubles.
+    pub fn with_doubles(mut self, doubles: &[f64]) -> Answer {
+        for (bits, double) in self.bits.iter_mut().zip(doubles) {
+            *bits = double.to_bits();
+        }
+        self
+    }
+}
+
+/// The call as it would be written, bytes as ASCII with escapes and epochs to the last bit.
+impl fmt::Display for Call<'_> {
+    fn fmt(&self, f: &mut fmt::Formatter<'_>) -> fmt::Result {
+        match self {
+            Call::MakeEmpty => write!(f, "make empty"),
+            Call::Load { label, text } => {
+                write!(f, "load under {label} the text \"{}\"", text.escape_ascii())
+            }
+            Call::Remove { label } => write!(f, "remove {label}"),
+            Call::Clear => write!(f, "clear"),
+            Call::Fetch { name, room } => {
+                write!(f, "fetch \"{}\" with room for {room}", name.escape_ascii())
+            }
+            Call::Totals => write!(f, "totals"),
+            Call::Orientation { body, epoch } => {
+                write!(
+                    f,
+                    "orientation of {body} at {epoch:?} ({:#X})",
+                    epoch.to_bits()
+                )
+            }
+            Call::BuiltinOrientation { body, epoch } => {
+                let bits = epoch.to_bits();
+                write!(f, "built-in orientation of {body} at {epoch:?} ({bits:#X})")
+            }
+            Call::Radii { body } => write!(f, "radii of {body}"),
+            Call::BuiltinRadii { body } => write!(f, "built-in radii of {body}"),
+        }
+    }
+}

@@ -1,0 +1,160 @@
+//! Histories of calls on one pool, made on both sides; at the end the pool is compared with one
+//! that only ever got the texts that are still held.
+
+use twin::layout::{Held, WORDS};
+
+use crate::bodies;
+use crate::call::Call;
+use crate::epochs::epoch;
+use crate::pair::{Pair, ROOM};
+use crate::random::Random;
+use crate::tally::Tally;
+use crate::text_parts::name;
+use crate::texts;
+
+/// Labels beside the small ones.
+const LARGE_LABELS: [u32; 3] = [0x7FFF_FFFF, 0x8000_0000, u32::MAX];
+
+/// The texts that are held, in the order of their loads.
+type Kept = Vec<(u32, Vec<u8>)>;
+
+/// Makes so many histories and tells how their calls were answered.
+pub fn run(random: &mut Random, histories: usize) -> Tally {
+    let mut tally = Tally::default();
+    let mut pair = Pair::new(&[]);
+    for _ in 0..histories {
+        let words: Vec<u64> = (0..WORDS).map(|_| random.bits()).collect();
+        pair.set(&words);
+        pair.ask(&Call::MakeEmpty);
+        let mut kept = Kept::new();
+        for _ in 0..random.between(5, 40) {
+            tally.add(step(&mut pair, &mut kept, random));
+        }
+        compare_with_kept(&mut pair, &kept);
+    }
+    tally
+}
+
+/// One call; the number that it is answered with.
+fn step(pair: &mut Pair, kept: &mut Kept, random: &mut Random) -> u32 {
+    match random.below(32) {
+        0..=12 => load(pair, kept, random),
+        13..=17 => {
+            let label = held_label(kept, random);
+            let number = pair.ask(&Call::Remove { label }).number;
+            if number == 0 {
+                kept.retain(|(other, _)| *other != label);
+            }
+            number
+        }
+        18 if random.once_in(4) => {
+            kept.clear();
+            let clears = random.once_in(2);
+            let call = if clears { Call::Clear } else { Call::MakeEmpty };
+            pair.ask(&call).number
+        }
+        18..=20 => pair.ask(&Call::Totals).number,
+        21..=24 => {
+            let name = any_name(random);
+            let room = random.one(&[0, 1, 2, 3, 4, 8, 64, ROOM, ROOM]);
+            let name = name.as_bytes();
+            pair.ask(&Call::Fetch { name, room }).number
+        }
+        25..=28 => {
+            let (body, epoch) = (bodies::code(random), epoch(random));
+            pair.ask(&Call::Orientation { body, epoch }).number
+        }
+        29 | 30 => {
+            let body = bodies::code(random);
+            pair.ask(&Call::Radii { body }).number
+        }
+        _ => {
+            let (body, epoch) = (bodies::code(random), epoch(random));
+            pair.ask(&Call::BuiltinRadii { body });
+            pair.ask(&Call::BuiltinOrientation { body, epoch }).number
+        }
+    }
+}
+
+fn load(pair: &mut Pair, kept: &mut Kept, random: &mut Random) -> u32 {
+    let text = match random.below(16) {
+        0..=7 => bodies::text(random),
+        8..=11 => texts::right(random),
+        12 => filler(random),
+        _ => texts::text(random),
+    };
+    let label = any_label(random);
+    let number = pair.ask(&Call::Load { label, text: &text }).number;
+    if number == 0 {
+        kept.push((label, text));
+    }
+    number
+}
+
+/// A text that takes much of a pool's room.
+fn filler(random: &mut Random) -> Vec<u8> {
+    let mut text = String::from("\\begindata\n");
+    for _ in 0..random.below(400) {
+        text.push_str("FILLER += 1\n");
+    }
+    text.push_str("FILLER = (\n");
+    for value in 0..random.between(1, 2000) {
+        text.push_str(&format!("{value}\n"));
+    }
+    text.push(')');
+    text.into_bytes()
+}
+
+/// One of more labels than texts are held.
+fn any_label(random: &mut Random) -> u32 {
+    if random.once_in(8) {
+        random.one(&LARGE_LABELS)
+    } else {
+        random.below(18) as u32
+    }
+}
+
+/// Mostly a label that is held.
+fn held_label(kept: &Kept, random: &mut Random) -> u32 {
+    if kept.is_empty() || random.once_in(3) {
+        any_label(random)
+    } else {
+        kept[random.below(kept.len())].0
+    }
+}
+
+/// A name that some text has, or bytes that are no name.
+fn any_name(random: &mut Random) -> String {
+    match random.below(12) {
+        0 => String::from(random.one(&["", " X", "X ", "X\0", "\u{e9}", "X=", "(", "NOWHERE"])),
+        1 => "N".repeat(random.between(31, 70)),
+        2 => String::from("FILLER"),
+        3..=6 => name(random),
+        _ => bodies::variable(random),
+    }
+}
+
+/// Fails unless the pool holds what a fresh one holds after loads of the kept texts alone.
+fn compare_with_kept(pair: &mut Pair, kept: &Kept) {
+    let after = pair.words().to_vec();
+    pair.ask(&Call::MakeEmpty);
+    for (label, text) in kept {
+        let label = *label;
+        assert_eq!(pair.ask(&Call::Load { label, text }).number, 0);
+    }
+    let labels: Vec<u32> = kept.iter().map(|(label, _)| *label).collect();
+    let (ours, fresh) = (in_use(&after), in_use(pair.words()));
+    assert!(ours == fresh, "after a history, not what {labels:?} hold");
+}
+
+/// The words of a pool that are in use.
+fn in_use(pool: &[u64]) -> Vec<u64> {
+    let held = Held::of(pool).expect("a pool that was never damaged");
+    let areas = [
+        held.texts,
+        held.heads,
+        held.names.as_flattened(),
+        held.values,
+    ];
+    areas.concat()
+}

@@ -1,0 +1,103 @@
+//! The kernels of the source documents, loaded by both sides: every variable, and every body at
+//! many epochs.
+
+use twin::layout::WORDS;
+use twin::text::read;
+
+use crate::bodies::TABLE;
+use crate::call::Call;
+use crate::epochs::{admitted, epoch};
+use crate::pair::{Pair, ROOM};
+use crate::random::Random;
+use crate::tally::Tally;
+
+/// A kernel's name and its bytes.
+macro_rules! kernel {
+    ($name:literal) => {
+        (
+            $name,
+            include_bytes!(concat!("../../../examples/kernels/", $name, ".tpc")),
+        )
+    };
+}
+
+/// The kernels of `examples/kernels`, by name.
+pub const KERNELS: [(&str, &[u8]); 7] = [
+    kernel!("planets"),
+    kernel!("radii"),
+    kernel!("moon"),
+    kernel!("mars-moons"),
+    kernel!("triton"),
+    kernel!("mars-example"),
+    kernel!("mars-example-short"),
+];
+
+/// All legal codes.
+const CODES: [std::ops::RangeInclusive<u32>; 2] = [1..=10, 100..=999];
+
+/// Loads each kernel alone, then all that agree together, compares every variable and asks each
+/// body at so many epochs.
+pub fn run(random: &mut Random, epochs: usize) -> Tally {
+    let mut tally = Tally::default();
+    let mut pair = Pair::new(&vec![random.bits(); WORDS]);
+    for (label, (_, text)) in KERNELS.iter().enumerate() {
+        pair.ask(&Call::MakeEmpty);
+        load(&mut pair, label as u32, text, &mut tally);
+        ask_bodies(&mut pair, random, epochs, &mut tally);
+    }
+    pair.ask(&Call::MakeEmpty);
+    for (label, (_, text)) in KERNELS.iter().enumerate() {
+        load(&mut pair, label as u32, text, &mut tally);
+    }
+    ask_bodies(&mut pair, random, epochs, &mut tally);
+    tally
+}
+
+/// Table I and the radii as texts answer as the built-in source does, on both sides.
+pub fn compare_with_built_in(random: &mut Random, epochs: usize) {
+    let mut pair = Pair::new(&vec![random.bits(); WORDS]);
+    pair.ask(&Call::MakeEmpty);
+    for (label, (_, text)) in KERNELS[..2].iter().enumerate() {
+        let label = label as u32;
+        assert_eq!(pair.ask(&Call::Load { label, text }).number, 0);
+    }
+    for body in TABLE {
+        let by_pool = pair.ask(&Call::Radii { body });
+        assert_eq!(by_pool, pair.ask(&Call::BuiltinRadii { body }));
+        for _ in 0..epochs {
+            let epoch = epoch(random);
+            let by_pool = pair.ask(&Call::Orientation { body, epoch });
+            let built_in = pair.ask(&Call::BuiltinOrientation { body, epoch });
+            assert_eq!(by_pool, built_in, "{body} at {epoch:?}");
+        }
+    }
+}
+
+/// Loads a kernel and fetches every variable that it names.
+fn load(pair: &mut Pair, label: u32, text: &[u8], tally: &mut Tally) {
+    tally.add(pair.ask(&Call::Load { label, text }).number);
+    for statement in read(text).unwrap_or_default() {
+        let name = &statement.name;
+        let fetched = pair.ask(&Call::Fetch { name, room: ROOM });
+        tally.add(fetched.number);
+        let count = fetched.counts[0] as usize;
+        for room in [count - 1, count] {
+            tally.add(pair.ask(&Call::Fetch { name, room }).number);
+        }
+    }
+}
+
+/// Asks for every legal code: radii, an orientation, and more of them if there is one.
+fn ask_bodies(pair: &mut Pair, random: &mut Random, epochs: usize, tally: &mut Tally) {
+    for body in CODES.into_iter().flatten() {
+        tally.add(pair.ask(&Call::Radii { body }).number);
+        let first = pair.ask(&Call::Orientation { body, epoch: 0.0 }).number;
+        tally.add(first);
+        if first == 0 {
+            for _ in 0..epochs {
+                let epoch = admitted(random);
+                tally.add(pair.ask(&Call::Orientation { body, epoch }).number);
+            }
+        }
+    }
+}

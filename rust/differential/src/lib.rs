@@ -1,0 +1,22 @@
+//! The library and the twin, asked the same and compared bit for bit: answers, the memory of the
+//! pool, the buffer, and what lies beside them. Everything is made from a seed, so that a
+//! difference can be met again.
+
+mod bodies;
+mod call;
+pub mod damage;
+pub mod decimals;
+mod epochs;
+pub mod histories;
+pub mod kernels;
+mod library;
+pub mod orientations;
+mod pair;
+mod random;
+mod tally;
+mod text_parts;
+pub mod texts;
+mod twin_side;
+
+pub use random::Random;
+pub use tally::Tally;

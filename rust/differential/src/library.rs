@@ -1,0 +1,57 @@
+//! The library's side of a call, straight through its C face.
+
+use globe_sys::{
+    globe_axes, globe_builtin_orientation, globe_builtin_radii, globe_clear, globe_fetch,
+    globe_load, globe_make_empty, globe_orientation, globe_oriented, globe_radii, globe_remove,
+    globe_reply, globe_totals,
+};
+
+use crate::call::{Answer, Call};
+
+/// Makes a call; a fetch gets as much of the buffer as it has room.
+pub fn answer(call: &Call, pool: &mut [u64], buffer: &mut [f64]) -> Answer {
+    let (memory, words) = (pool.as_mut_ptr(), pool.len());
+    // Safety: each pointer has as many elements behind it as is said, and no two slices overlap.
+    unsafe {
+        match *call {
+            Call::MakeEmpty => replied(globe_make_empty(memory, words)),
+            Call::Load { label, text } => {
+                replied(globe_load(memory, words, label, text.as_ptr(), text.len()))
+            }
+            Call::Remove { label } => replied(globe_remove(memory, words, label)),
+            Call::Clear => replied(globe_clear(memory, words)),
+            Call::Fetch { name, room } => {
+                let buffer = buffer[..room].as_mut_ptr();
+                let f = globe_fetch(memory, words, name.as_ptr(), name.len(), buffer, room);
+                Answer::of(f.number, f.line).with_counts([f.count, 0, 0])
+            }
+            Call::Totals => {
+                let c = globe_totals(memory, words);
+                Answer::of(c.number, c.line).with_counts([c.texts, c.statements, c.values])
+            }
+            Call::Orientation { body, epoch } => {
+                oriented(globe_orientation(memory, words, body, epoch))
+            }
+            Call::BuiltinOrientation { body, epoch } => {
+                oriented(globe_builtin_orientation(body, epoch))
+            }
+            Call::Radii { body } => axes(globe_radii(memory, words, body)),
+            Call::BuiltinRadii { body } => axes(globe_builtin_radii(body)),
+        }
+    }
+}
+
+fn replied(r: globe_reply) -> Answer {
+    Answer::of(r.number, r.line)
+}
+
+fn oriented(o: globe_oriented) -> Answer {
+    let doubles = [
+        o.ra, o.dec, o.w, o.m11, o.m12, o.m13, o.m21, o.m22, o.m23, o.m31, o.m32, o.m33,
+    ];
+    Answer::of(o.number, o.line).with_doubles(&doubles)
+}
+
+fn axes(x: globe_axes) -> Answer {
+    Answer::of(x.number, x.line).with_doubles(&[x.a, x.b, x.c])
+}

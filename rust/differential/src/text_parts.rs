@@ -1,0 +1,251 @@
+//! What texts are put together from: names, values, statements and lines, right ones and faulty
+//! ones.
+
+use crate::decimals::{inside, near, outside};
+use crate::random::Random;
+
+/// Lines of right texts are broken before they get longer than this.
+const BREAK: usize = 30;
+
+/// Names that come again, so that statements meet.
+const NAMES: &[&str] = &[
+    "X",
+    "x",
+    "Y_1",
+    "_",
+    "9",
+    "BODY399_PM",
+    "BODY399_POLE_RA",
+    "BODY3_NUT_PREC_ANGLES",
+    "A234567890123456789012345678901",
+    "A2345678901234567890123456789012",
+];
+
+const NAME_BYTES: &[u8] = b"ABCDEFGHIJKLMNOPQRSTUVWXYZabcdefghijklmnopqrstuvwxyz0123456789_";
+
+/// A name of 1 to 32 bytes.
+pub fn name(random: &mut Random) -> String {
+    if !random.once_in(4) {
+        return String::from(random.one(NAMES));
+    }
+    let length = random.one(&[1, 2, 5, 8, 9, 16, 17, 24, 25, 31, 32]);
+    (0..length)
+        .map(|_| char::from(random.one(NAME_BYTES)))
+        .collect()
+}
+
+/// An operator between optional blanks.
+pub fn operator(random: &mut Random) -> &'static str {
+    random.one(&[
+        " = ", " = ", "=", " =", "= ", "\t=\t", " += ", " += ", "+=", "  +=  ",
+    ])
+}
+
+/// A right statement with the end of its last line.
+pub fn statement(random: &mut Random, end: &str) -> String {
+    let name = name(random);
+    let operator = operator(random);
+    let indent = random.one(&["", "", " ", "\t"]);
+    let mut text = format!("{indent}{name}{operator}");
+    if random.once_in(3) {
+        text.push_str(&inside(random));
+    } else {
+        let count = random.one(&[1, 1, 2, 3, 3, 4, 6, 9]);
+        list(&mut text, random, end, count);
+    }
+    text.push_str(random.one(&["", "", "", " ", "\t "]));
+    text.push_str(end);
+    text
+}
+
+/// A list of so many numbers.
+fn list(text: &mut String, random: &mut Random, end: &str, count: usize) {
+    text.push_str(random.one(&["(", "( ", "(,", "( ,\t"]));
+    for place in 0..count {
+        if place > 0 {
+            text.push_str(random.one(&[" ", " ", ", ", ",", "\t", " , ", ",,"]));
+        }
+        let line = text.len() - text.rfind('\n').map_or(0, |at| at + 1);
+        if line > BREAK || random.once_in(8) {
+            text.push_str(end);
+            text.push_str(random.one(&["", "  ", "\t", ","]));
+        }
+        text.push_str(&inside(random));
+    }
+    text.push_str(random.one(&[")", " )", ",)", "\t)"]));
+}
+
+/// A line of a text section, of any bytes, with its end.
+pub fn note(random: &mut Random, end: &str) -> Vec<u8> {
+    let mut line = match random.below(6) {
+        0 => Vec::new(),
+        1 => random.one(&NOTES).as_bytes().to_vec(),
+        2 => (0..random.below(80))
+            .map(|_| other_than_lf(random))
+            .collect(),
+        3 => vec![b'x'; random.between(77, 79)],
+        _ => b"Some words about the numbers below.".to_vec(),
+    };
+    // A CR at the end would be dropped or counted by what follows it.
+    if line.last() == Some(&b'\r') {
+        line.pop();
+    }
+    line.extend_from_slice(end.as_bytes());
+    line
+}
+
+/// Lines that look like something else.
+const NOTES: [&str; 8] = [
+    "X = 1",
+    "X = ( 1",
+    "\\begindata.",
+    "\\begin data",
+    "begindata",
+    "\\BEGINDATA",
+    "x \\begindata",
+    "\\begindata\\begintext",
+];
+
+fn other_than_lf(random: &mut Random) -> u8 {
+    match random.bits() as u8 {
+        b'\n' => b' ',
+        byte => byte,
+    }
+}
+
+/// A delimiter line with its end.
+pub fn delimiter(random: &mut Random, word: &str, end: &str) -> String {
+    let before = random.one(&["", "", "", " ", "\t\t"]);
+    let after = random.one(&["", "", "", " ", " \t"]);
+    format!("{before}{word}{after}{end}")
+}
+
+/// A data line that is faulty in one of many ways, without its end.
+pub fn faulty_line(random: &mut Random) -> Vec<u8> {
+    match random.below(12) {
+        0 | 1 => long_line(random),
+        2 | 3 => bad_line(random),
+        4 => format!("{} = {}", name(random), near(random)).into_bytes(),
+        5 => format!("{} = {}", name(random), outside(random)).into_bytes(),
+        6 => {
+            let values = [near(random), outside(random), inside(random)];
+            let (first, second) = (random.below(3), random.below(3));
+            format!("X = ( {} {} )", values[first], values[second]).into_bytes()
+        }
+        7 => {
+            let rest = random.one(&["x", ",", ")", "(", "1", "= 2", "1E99", "#"]);
+            format!("{} = {} {rest}", name(random), inside(random)).into_bytes()
+        }
+        8 => format!("{}{} = 1", name(random), "N".repeat(random.between(30, 36))).into_bytes(),
+        _ => random.one(FAULTS).as_bytes().to_vec(),
+    }
+}
+
+/// A line of about the limit and more.
+fn long_line(random: &mut Random) -> Vec<u8> {
+    let length = random.one(&[78, 79, 79, 80, 80, 80, 81, 82, 132, 133, 300]);
+    let mut line = random
+        .one(&["X = 1", "X = ( 1", "", "1 2 3", "\\begindata", "?"])
+        .as_bytes()
+        .to_vec();
+    line.resize(length, random.one(b" \t,x0\x01"));
+    line
+}
+
+/// A line with a byte that may not stand in a data line.
+fn bad_line(random: &mut Random) -> Vec<u8> {
+    let mut line = random
+        .one(&[
+            "X = 1",
+            "X = ( 1 2",
+            "X = 1E99 ",
+            "X = ? ",
+            "",
+            "\\begintext",
+        ])
+        .as_bytes()
+        .to_vec();
+    let byte = random.one(&[0, 1, 8, 11, 12, 13, 13, 27, 31, 127, 128, 160, 194, 255]);
+    line.insert(random.between(0, line.len()), byte);
+    line
+}
+
+/// Lines with one fault each, or none.
+const FAULTS: &[&str] = &[
+    "X",
+    "X =",
+    "X +=",
+    "X +",
+    "X + = 1",
+    "X : 1",
+    "X == 1",
+    "= 1",
+    "1",
+    ")",
+    "X = ()",
+    "X = ( )",
+    "X = ( ,, )",
+    "X = ( 1",
+    "X = (",
+    "X = ( 1 ( 2 )",
+    "X = (( 1 ))",
+    "X = ( 1 ) )",
+    "X = ( 1 ), ",
+    "X = ( 1 ) 2",
+    "X = 1,",
+    "X = 1)",
+    "X = 1(",
+    "X = ,1",
+    "X = 1E99 junk",
+    "X = junk 1E99",
+    "X = ( 1E99",
+    "X = ( 1E99 ( )",
+    "X = ( a 1E99 )",
+    "X = ( 1E99 a )",
+    "X = 1E99,",
+    "X = 1 Y = 2",
+    "X Y = 1",
+    "X.Y = 1",
+    "X = 'MARS'",
+    "X = @1-JAN-2000",
+    "\\begindata x",
+    "\\begintextx",
+    "X = 1E23",
+    "X = 9007199254740993",
+    "X = 1.0E23",
+    "X = 9007199254740992",
+];
+
+/// Pieces that are strung together without any order.
+pub const TOKENS: &[&str] = &[
+    "\\begindata",
+    "\\begintext",
+    "\n",
+    "\n",
+    "\n",
+    "\r\n",
+    "\r",
+    " ",
+    " ",
+    "\t",
+    "X",
+    "BODY1_PM",
+    "=",
+    " = ",
+    "+=",
+    "+",
+    "(",
+    "(",
+    ")",
+    ")",
+    ",",
+    "1",
+    "2.5",
+    "-3E4",
+    ".",
+    "E",
+    "1E99",
+    "9007199254740993",
+    "\u{1}",
+    "\u{e9}",
+];

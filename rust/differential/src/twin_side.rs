@@ -1,0 +1,49 @@
+//! The twin's side of a call.
+
+use twin::answers::{orientation, radii};
+use twin::builtin::{builtin_orientation, builtin_radii};
+use twin::pool::{clear, fetch, load, make_empty, remove, totals};
+use twin::refusal::{Refusal, Refused};
+use twin::rotation::Orientation;
+
+use crate::call::{Answer, Call};
+
+/// Makes a call; a fetch gets as much of the buffer as it has room.
+pub fn answer(call: &Call, pool: &mut [u64], buffer: &mut [f64]) -> Answer {
+    match *call {
+        Call::MakeEmpty => answered(make_empty(pool), |()| Answer::default()),
+        Call::Load { label, text } => answered(load(pool, label, text), |()| Answer::default()),
+        Call::Remove { label } => answered(remove(pool, label), |()| Answer::default()),
+        Call::Clear => answered(clear(pool), |()| Answer::default()),
+        Call::Fetch { name, room } => answered(fetch(pool, name, &mut buffer[..room]), |count| {
+            Answer::default().with_counts([count as u32, 0, 0])
+        }),
+        Call::Totals => answered(totals(pool), |t| {
+            Answer::default().with_counts([t.texts, t.statements, t.values].map(|n| n as u32))
+        }),
+        Call::Orientation { body, epoch } => oriented(orientation(pool, body, epoch)),
+        Call::BuiltinOrientation { body, epoch } => oriented(builtin_orientation(body, epoch)),
+        Call::Radii { body } => axes(radii(pool, body)),
+        Call::BuiltinRadii { body } => axes(builtin_radii(body)),
+    }
+}
+
+/// A refusal has a number, a line and nothing else.
+fn answered<T>(result: Result<T, Refused>, answer: impl Fn(T) -> Answer) -> Answer {
+    match result {
+        Ok(value) => answer(value),
+        Err(refused) => Answer::of(refused.refusal.number(), refused.line as u32),
+    }
+}
+
+fn oriented(result: Result<Orientation, Refusal>) -> Answer {
+    answered(result.map_err(Refused::from), |o| {
+        Answer::default().with_doubles(&o.doubles())
+    })
+}
+
+fn axes(result: Result<[f64; 3], Refusal>) -> Answer {
+    answered(result.map_err(Refused::from), |radii| {
+        Answer::default().with_doubles(&radii)
+    })
+}

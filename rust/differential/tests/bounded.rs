@@ -1,0 +1,89 @@
+//! The bounded comparison: the same inputs at every run, each kind of answer met often enough.
+
+use std::fs;
+use std::io::{self, Write};
+use std::path::Path;
+
+use differential::{damage, decimals, histories, kernels, orientations, texts, Random, Tally};
+
+const SEED: u64 = 2000;
+
+/// The least that each refusal of a load is met by generated texts, and any refusal elsewhere.
+const LEAST_OF_LOADS: u64 = 500;
+const LEAST: u64 = 100;
+
+/// Prints the counts, also where the test harness keeps what tests print.
+fn report(what: &str, tally: &Tally) {
+    writeln!(io::stdout(), "{what}: {tally}").expect("standard output is open");
+}
+
+#[test]
+fn generated_texts() {
+    let tally = texts::run(&mut Random::new(SEED), 200_000);
+    report("generated texts", &tally);
+    tally.expect(0..=7, LEAST_OF_LOADS);
+}
+
+#[test]
+fn call_histories() {
+    let tally = histories::run(&mut Random::new(SEED), 20_000);
+    report("calls of 20000 histories", &tally);
+    tally.expect(0..=14, LEAST);
+}
+
+#[test]
+fn orientations_by_pools() {
+    let tally = orientations::run_on_pools(&mut Random::new(SEED), 300_000);
+    report("orientations by pools", &tally);
+    tally.expect([0], 100_000);
+    tally.expect(9..=12, LEAST);
+}
+
+#[test]
+fn orientations_by_the_table() {
+    let tally = orientations::run_on_table(&mut Random::new(SEED), 200_000);
+    report("orientations by the table", &tally);
+    tally.expect([0], 100_000);
+    tally.expect([9, 10], LEAST);
+}
+
+#[test]
+fn decimal_strings() {
+    let tally = decimals::run(&mut Random::new(SEED), 200_000);
+    report("decimal strings", &tally);
+    tally.expect([0, 5, 6], LEAST);
+}
+
+#[test]
+fn damaged_pools() {
+    let tally = damage::run(&mut Random::new(SEED), 20_000);
+    report("calls on 20000 changed pools", &tally);
+    tally.expect([0, 15], LEAST);
+}
+
+#[test]
+fn kernels_of_the_source_documents() {
+    let tally = kernels::run(&mut Random::new(SEED), 200);
+    report("calls on kernels", &tally);
+    kernels::compare_with_built_in(&mut Random::new(SEED), 1_000);
+}
+
+#[test]
+fn every_kernel_is_compared_and_described() {
+    let examples = Path::new(env!("CARGO_MANIFEST_DIR")).join("../../examples");
+    let described = fs::read_to_string(examples.join("README.md")).expect("the list is read");
+    let files = fs::read_dir(examples.join("kernels")).expect("the kernels are there");
+    let names: Vec<String> = files
+        .map(|file| file.expect("a kernel is there").file_name())
+        .map(|name| name.to_string_lossy().into_owned())
+        .collect();
+    assert_eq!(names.len(), kernels::KERNELS.len());
+    for name in names {
+        let stem = name.strip_suffix(".tpc").expect("kernels end in .tpc");
+        assert!(kernels::KERNELS.iter().any(|(kernel, _)| *kernel == stem));
+        assert!(
+            described.contains(&format!("| `kernels/{name}` |")),
+            "{name}"
+        );
+    }
+}

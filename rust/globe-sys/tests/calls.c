@@ -1,0 +1,104 @@
+/*
+ * Makes one call after another through globe.h and prints every field of each answer, doubles as
+ * their bits: tests/calls.rs makes the same calls from Rust.
+ */
+#include "globe.h"
+
+#include <inttypes.h>
+#include <stdio.h>
+#include <string.h>
+
+static uint64_t pool[GLOBE_POOL_WORDS];
+
+static const char TEXT[] = "note\n"
+                           "\\begindata\n"
+                           "BODY899_POLE_RA = 299.36\n"
+                           "BODY899_POLE_DEC = 43.46\n"
+                           "BODY899_PM = ( 253.18 536.3128492 )\n"
+                           "BODY899_NUT_PREC_RA = 0.70\n"
+                           "BODY899_RADII = ( 24764 24764\n"
+                           "24341 )\n"
+                           "BODY8_NUT_PREC_ANGLES = ( 357.85 52.316 )\n";
+static const char FAULTY[] = "\\begindata\nX = 1\nX = 1E23\n";
+static const char NAME[] = "BODY899_RADII";
+
+static void print_doubles(size_t count, const double *values) {
+    for (size_t i = 0; i < count; i++) {
+        uint64_t bits;
+        memcpy(&bits, &values[i], sizeof bits);
+        printf(" %016" PRIX64, bits);
+    }
+    printf("\n");
+}
+
+static void print_reply(globe_reply r) {
+    printf("reply %" PRIu32 " %" PRIu32 "\n", r.number, r.line);
+}
+
+static void print_counts(globe_counts c) {
+    printf("counts %" PRIu32 " %" PRIu32 " %" PRIu32 " %" PRIu32 " %" PRIu32 "\n", c.number, c.line,
+           c.texts, c.statements, c.values);
+}
+
+static void print_fetched(globe_fetched f, const double *buffer, size_t room) {
+    printf("fetched %" PRIu32 " %" PRIu32 " %" PRIu32, f.number, f.line, f.count);
+    print_doubles(room, buffer);
+}
+
+static void print_oriented(globe_oriented o) {
+    const double values[] = {o.ra,  o.dec, o.w,   o.m11, o.m12, o.m13,
+                             o.m21, o.m22, o.m23, o.m31, o.m32, o.m33};
+    printf("oriented %" PRIu32 " %" PRIu32, o.number, o.line);
+    print_doubles(12, values);
+}
+
+static void print_axes(globe_axes x) {
+    const double values[] = {x.a, x.b, x.c};
+    printf("axes %" PRIu32 " %" PRIu32, x.number, x.line);
+    print_doubles(3, values);
+}
+
+int main(void) {
+    const uint8_t *text = (const uint8_t *)TEXT, *faulty = (const uint8_t *)FAULTY;
+    const uint8_t *name = (const uint8_t *)NAME;
+    const size_t words = globe_pool_words();
+    double buffer[4] = {-1, -1, -1, -1};
+
+    memset(pool, 0xA5, sizeof pool);
+    print_counts(globe_totals(pool, words));
+    print_reply(globe_make_empty(pool, words - 1));
+    print_reply(globe_make_empty(pool, words));
+    print_reply(globe_load(pool, words, 4294967295u, text, sizeof TEXT - 1));
+    print_reply(globe_load(pool, words, 4294967295u, text, sizeof TEXT - 1));
+    print_reply(globe_load(pool, words, 2, faulty, sizeof FAULTY - 1));
+    print_counts(globe_totals(pool, words));
+    print_fetched(globe_fetch(pool, words, name, sizeof NAME - 1, buffer, 2), buffer, 4);
+    print_fetched(globe_fetch(pool, words, name, sizeof NAME - 1, buffer, 4), buffer, 4);
+    print_fetched(globe_fetch(pool, words, name, sizeof NAME - 2, buffer, 4), buffer, 4);
+    print_oriented(globe_orientation(pool, words, 899, 1234567890.125));
+    print_oriented(globe_orientation(pool, words, 899, 157788000000.0));
+    print_oriented(globe_orientation(pool, words, 899, 157788000001.0));
+    print_oriented(globe_orientation(pool, words, (uint32_t)-31, 0.0));
+    print_oriented(globe_builtin_orientation(599, -1e9));
+    print_oriented(globe_builtin_orientation(11, 0.0));
+    print_axes(globe_radii(pool, words, 899));
+    print_axes(globe_radii(pool, words, 399));
+    print_axes(globe_builtin_radii(399));
+    print_axes(globe_builtin_radii(10));
+
+    /* NULL with 0 is an empty slice. */
+    print_reply(globe_make_empty(NULL, 0));
+    print_counts(globe_totals(NULL, 0));
+    print_reply(globe_load(pool, words, 7, NULL, 0));
+    print_fetched(globe_fetch(pool, words, NULL, 0, buffer, 4), buffer, 4);
+    print_fetched(globe_fetch(pool, words, name, sizeof NAME - 1, NULL, 0), buffer, 4);
+    print_counts(globe_totals(pool, words));
+
+    print_reply(globe_remove(pool, words, 8));
+    print_reply(globe_remove(pool, words, 7));
+    print_counts(globe_totals(pool, words));
+    print_reply(globe_clear(pool, words));
+    print_counts(globe_totals(pool, words));
+    print_doubles(words, (const double *)(const void *)pool);
+    return 0;
+}

@@ -1,0 +1,138 @@
+//! C through the header and Rust through the declarations get the same answers from the library.
+
+mod common;
+
+use std::fmt::Write;
+use std::path::Path;
+use std::ptr::{null, null_mut};
+
+use globe_sys::*;
+
+const TEXT: &[u8] = b"note
+\\begindata
+BODY899_POLE_RA = 299.36
+BODY899_POLE_DEC = 43.46
+BODY899_PM = ( 253.18 536.3128492 )
+BODY899_NUT_PREC_RA = 0.70
+BODY899_RADII = ( 24764 24764
+24341 )
+BODY8_NUT_PREC_ANGLES = ( 357.85 52.316 )
+";
+const FAULTY: &[u8] = b"\\begindata\nX = 1\nX = 1E23\n";
+const NAME: &[u8] = b"BODY899_RADII";
+
+/// The lines that `calls.c` prints.
+#[derive(Default)]
+struct Lines(String);
+
+impl Lines {
+    fn add(&mut self, answer: &str, numbers: &[u32], doubles: &[f64]) {
+        self.0.push_str(answer);
+        for number in numbers {
+            write!(self.0, " {number}").unwrap();
+        }
+        for double in doubles {
+            write!(self.0, " {:016X}", double.to_bits()).unwrap();
+        }
+        self.0.push('\n');
+    }
+
+    fn reply(&mut self, r: globe_reply) {
+        self.add("reply", &[r.number, r.line], &[]);
+    }
+
+    fn counts(&mut self, c: globe_counts) {
+        let numbers = [c.number, c.line, c.texts, c.statements, c.values];
+        self.add("counts", &numbers, &[]);
+    }
+
+    fn fetched(&mut self, f: globe_fetched, buffer: &[f64]) {
+        self.add("fetched", &[f.number, f.line, f.count], buffer);
+    }
+
+    fn oriented(&mut self, o: globe_oriented) {
+        let doubles = [
+            o.ra, o.dec, o.w, o.m11, o.m12, o.m13, o.m21, o.m22, o.m23, o.m31, o.m32, o.m33,
+        ];
+        self.add("oriented", &[o.number, o.line], &doubles);
+    }
+
+    fn axes(&mut self, x: globe_axes) {
+        self.add("axes", &[x.number, x.line], &[x.a, x.b, x.c]);
+    }
+}
+
+/// The calls of `calls.c`, in its order.
+fn calls() -> String {
+    let mut lines = Lines::default();
+    let words = globe_pool_words();
+    let mut memory = vec![0xA5A5_A5A5_A5A5_A5A5_u64; words];
+    let pool = memory.as_mut_ptr();
+    let mut buffer = [-1.0; 4];
+    let room = buffer.as_mut_ptr();
+    let (text, faulty, name) = (TEXT.as_ptr(), FAULTY.as_ptr(), NAME.as_ptr());
+    // Safety: each pointer has as many elements behind it as is said, and none overlap.
+    unsafe {
+        lines.counts(globe_totals(pool, words));
+        lines.reply(globe_make_empty(pool, words - 1));
+        lines.reply(globe_make_empty(pool, words));
+        lines.reply(globe_load(pool, words, u32::MAX, text, TEXT.len()));
+        lines.reply(globe_load(pool, words, u32::MAX, text, TEXT.len()));
+        lines.reply(globe_load(pool, words, 2, faulty, FAULTY.len()));
+        lines.counts(globe_totals(pool, words));
+        let whole = NAME.len();
+        lines.fetched(globe_fetch(pool, words, name, whole, room, 2), &buffer);
+        lines.fetched(globe_fetch(pool, words, name, whole, room, 4), &buffer);
+        lines.fetched(globe_fetch(pool, words, name, whole - 1, room, 4), &buffer);
+        lines.oriented(globe_orientation(pool, words, 899, 1234567890.125));
+        lines.oriented(globe_orientation(pool, words, 899, 157788000000.0));
+        lines.oriented(globe_orientation(pool, words, 899, 157788000001.0));
+        lines.oriented(globe_orientation(pool, words, -31_i32 as u32, 0.0));
+        lines.oriented(globe_builtin_orientation(599, -1e9));
+        lines.oriented(globe_builtin_orientation(11, 0.0));
+        lines.axes(globe_radii(pool, words, 899));
+        lines.axes(globe_radii(pool, words, 399));
+        lines.axes(globe_builtin_radii(399));
+        lines.axes(globe_builtin_radii(10));
+
+        lines.reply(globe_make_empty(null_mut(), 0));
+        lines.counts(globe_totals(null(), 0));
+        lines.reply(globe_load(pool, words, 7, null(), 0));
+        lines.fetched(globe_fetch(pool, words, null(), 0, room, 4), &buffer);
+        lines.fetched(
+            globe_fetch(pool, words, name, whole, null_mut(), 0),
+            &buffer,
+        );
+        lines.counts(globe_totals(pool, words));
+
+        lines.reply(globe_remove(pool, words, 8));
+        lines.reply(globe_remove(pool, words, 7));
+        lines.counts(globe_totals(pool, words));
+        lines.reply(globe_clear(pool, words));
+        lines.counts(globe_totals(pool, words));
+    }
+    let doubles: Vec<f64> = memory.iter().map(|word| f64::from_bits(*word)).collect();
+    lines.add("", &[], &doubles);
+    lines.0
+}
+
+#[test]
+fn both_faces_answer_alike() {
+    let program = common::compile(Path::new("tests/calls.c"));
+    assert_eq!(common::written(&common::run(&program, &[])), calls());
+}
+
+#[test]
+fn numbers_of_the_answers() {
+    let lines = calls();
+    let numbers: Vec<&str> = lines
+        .lines()
+        .filter_map(|line| line.split(' ').nth(1))
+        .take(31)
+        .collect();
+    let expected = [
+        "15", "15", "0", "0", "1", "6", "0", "14", "0", "13", "0", "0", "9", "10", "0", "10", "0",
+        "10", "0", "10", "15", "15", "0", "13", "14", "0", "8", "0", "0", "0", "0",
+    ];
+    assert_eq!(numbers, expected);
+}

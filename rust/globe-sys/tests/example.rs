@@ -1,0 +1,27 @@
+//! The example in C compiles without a warning, and prints what is kept beside it.
+
+mod common;
+
+use std::fs;
+
+#[test]
+fn the_example_prints_what_is_kept() {
+    let program = common::compile(&common::top().join("examples/orientation.c"));
+    let output = common::run(&program, &[]);
+    assert!(output.status.success());
+    let kept = fs::read_to_string(common::top().join("examples/orientation.stdout"))
+        .expect("the kept output is read");
+    assert_eq!(common::written(&output), kept);
+
+    let refused = common::run(&program, &["examples/kernels/mars-example.tpc"]);
+    assert!(!refused.status.success());
+    assert!(common::written(&refused).contains("refused 6 (NUMBER) at line 485: "));
+
+    let unreadable = common::run(&program, &["examples/kernels/nowhere.tpc"]);
+    assert!(!unreadable.status.success());
+    assert!(String::from_utf8_lossy(&unreadable.stderr).contains("nowhere.tpc"));
+
+    let negative = common::run(&program, &["examples/kernels/moon.tpc", "-31"]);
+    assert!(!negative.status.success());
+    assert!(common::written(&negative).contains("refused 10 (UNKNOWN BODY)"));
+}

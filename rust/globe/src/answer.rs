@@ -1,0 +1,25 @@
+//! What is answered when nothing is refused.
+
+/// How a body is oriented.
+#[derive(Clone, Copy, Debug, PartialEq)]
+pub struct Orientation {
+    /// The right ascension of the north pole in degrees, from 0 up to 360.
+    pub ra: f64,
+    /// The declination of the north pole in degrees.
+    pub dec: f64,
+    /// The prime meridian in degrees, from 0 up to 360.
+    pub w: f64,
+    /// The matrix from inertial to body-fixed axes, row by row.
+    pub matrix: [[f64; 3]; 3],
+}
+
+/// What a pool holds.
+#[derive(Clone, Copy, Debug, Default, PartialEq, Eq)]
+pub struct Totals {
+    /// The texts, each under a label of its own.
+    pub texts: usize,
+    /// The statements of all texts.
+    pub statements: usize,
+    /// The values of all statements.
+    pub values: usize,
+}

@@ -1,0 +1,117 @@
+//! The calls of the library over slices: the one place with unsafe code.
+//!
+//! Every call is sound for all arguments: the library is proved for memory of any size and
+//! content, a slice's pointer and length go together, and the borrow checker keeps a slice that is
+//! written apart from all others.
+#![allow(unsafe_code)]
+
+use globe_sys as sys;
+
+use crate::answer::{Orientation, Totals};
+use crate::refusal::{Refusal, Refused};
+
+pub fn pool_words() -> usize {
+    sys::globe_pool_words()
+}
+
+pub fn make_empty(pool: &mut [u64]) -> Result<(), Refused> {
+    // Safety: see above.
+    let reply = unsafe { sys::globe_make_empty(pool.as_mut_ptr(), pool.len()) };
+    accepted(reply.number, reply.line)
+}
+
+pub fn load(pool: &mut [u64], label: u32, text: &[u8]) -> Result<(), Refused> {
+    let (words, bytes) = (pool.len(), text.len());
+    // Safety: see above.
+    let reply = unsafe { sys::globe_load(pool.as_mut_ptr(), words, label, text.as_ptr(), bytes) };
+    accepted(reply.number, reply.line)
+}
+
+pub fn remove(pool: &mut [u64], label: u32) -> Result<(), Refused> {
+    // Safety: see above.
+    let reply = unsafe { sys::globe_remove(pool.as_mut_ptr(), pool.len(), label) };
+    accepted(reply.number, reply.line)
+}
+
+pub fn clear(pool: &mut [u64]) -> Result<(), Refused> {
+    // Safety: see above.
+    let reply = unsafe { sys::globe_clear(pool.as_mut_ptr(), pool.len()) };
+    accepted(reply.number, reply.line)
+}
+
+pub fn fetch(pool: &[u64], name: &[u8], buffer: &mut [f64]) -> Result<usize, Refused> {
+    let (words, room) = (pool.len(), buffer.len());
+    // Safety: see above.
+    let fetched = unsafe {
+        sys::globe_fetch(
+            pool.as_ptr(),
+            words,
+            name.as_ptr(),
+            name.len(),
+            buffer.as_mut_ptr(),
+            room,
+        )
+    };
+    accepted(fetched.number, fetched.line)?;
+    Ok(fetched.count as usize)
+}
+
+pub fn totals(pool: &[u64]) -> Result<Totals, Refused> {
+    // Safety: see above.
+    let counts = unsafe { sys::globe_totals(pool.as_ptr(), pool.len()) };
+    accepted(counts.number, counts.line)?;
+    Ok(Totals {
+        texts: counts.texts as usize,
+        statements: counts.statements as usize,
+        values: counts.values as usize,
+    })
+}
+
+pub fn orientation(pool: &[u64], body: u32, epoch: f64) -> Result<Orientation, Refused> {
+    // Safety: see above.
+    oriented(unsafe { sys::globe_orientation(pool.as_ptr(), pool.len(), body, epoch) })
+}
+
+pub fn builtin_orientation(body: u32, epoch: f64) -> Result<Orientation, Refused> {
+    oriented(sys::globe_builtin_orientation(body, epoch))
+}
+
+pub fn radii(pool: &[u64], body: u32) -> Result<[f64; 3], Refused> {
+    // Safety: see above.
+    axes(unsafe { sys::globe_radii(pool.as_ptr(), pool.len(), body) })
+}
+
+pub fn builtin_radii(body: u32) -> Result<[f64; 3], Refused> {
+    axes(sys::globe_builtin_radii(body))
+}
+
+/// Nothing if the number is that of success, else the refusal that it stands for.
+fn accepted(number: u32, line: u32) -> Result<(), Refused> {
+    if number == sys::GLOBE_OK {
+        return Ok(());
+    }
+    let refusal = Refusal::ALL
+        .into_iter()
+        .find(|refusal| refusal.number() == number)
+        .expect("the library's numbers are those of the header");
+    Err(Refused { refusal, line })
+}
+
+fn oriented(o: sys::globe_oriented) -> Result<Orientation, Refused> {
+    accepted(o.number, o.line)?;
+    Ok(Orientation {
+        ra: o.ra,
+        dec: o.dec,
+        w: o.w,
+        matrix: [
+            [o.m11, o.m12, o.m13],
+            [o.m21, o.m22, o.m23],
+            [o.m31, o.m32, o.m33],
+        ],
+    })
+}
+
+fn axes(x: sys::globe_axes) -> Result<[f64; 3], Refused> {
+    accepted(x.number, x.line)?;
+    Ok([x.a, x.b, x.c])
+}

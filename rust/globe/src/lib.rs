@@ -1,0 +1,71 @@
+//! Where the Sun, the planets and their satellites point, from SPICE text PCK kernels or from a
+//! built-in table. The answers are those of the proved library, to the last bit.
+//!
+//! ```
+//! let kernel = "
+//! The pole and the prime meridian of Mars.
+//! \\begindata
+//! BODY499_POLE_RA  = ( 317.68143  -0.1061 )
+//! BODY499_POLE_DEC = (  52.88650  -0.0609 )
+//! BODY499_PM       = ( 176.630   350.89198226 )
+//! ";
+//! let mut pool = globe::Pool::new();
+//! pool.load(1, kernel)?;
+//! let noon = pool.orientation(499, 0.0)?;
+//! assert_eq!(noon.w, 176.630);
+//! assert_eq!(noon, globe::builtin_orientation(499, 0.0)?);
+//! # Ok::<(), globe::Refused>(())
+//! ```
+//!
+//! A text that is refused says which line is faulty, and what to do:
+//!
+//! ```
+//! let mut pool = globe::Pool::new();
+//! let refused = pool.load(1, "\\begindata\nX = (1, 2\nY = 3").unwrap_err();
+//! assert_eq!(refused.refusal, globe::Refusal::Syntax);
+//! assert_eq!(refused.line, 3);
+//! println!("{refused}");
+//! ```
+#![no_std]
+#![deny(missing_docs)]
+#![deny(unsafe_code)]
+
+extern crate alloc;
+
+mod answer;
+mod face;
+mod pool;
+mod refusal;
+
+pub use answer::{Orientation, Totals};
+pub use pool::Pool;
+pub use refusal::{Refusal, Refused};
+
+/// The orientation of a body by the built-in table, at an epoch in TDB seconds past J2000. The
+/// table has the Sun, 10, and the planets, 199, 299 and so on to 999.
+///
+/// Refused: [`Refusal::Epoch`], [`Refusal::UnknownBody`].
+///
+/// ```
+/// let earth = globe::builtin_orientation(399, 0.0)?;
+/// assert_eq!((earth.ra, earth.dec, earth.w), (0.0, 90.0, 190.147));
+/// assert_eq!(earth.matrix[2], [0.0, 0.0, 1.0]);
+/// # Ok::<(), globe::Refused>(())
+/// ```
+pub fn builtin_orientation(body: u32, epoch: f64) -> Result<Orientation, Refused> {
+    face::builtin_orientation(body, epoch)
+}
+
+/// The radii of a planet in km by the built-in table, 199, 299 and so on to 999: two equatorial
+/// ones, then the polar one.
+///
+/// Refused: [`Refusal::UnknownBody`], also for the Sun.
+///
+/// ```
+/// assert_eq!(globe::builtin_radii(499)?, [3397.0, 3397.0, 3375.0]);
+/// assert!(globe::builtin_radii(10).is_err());
+/// # Ok::<(), globe::Refused>(())
+/// ```
+pub fn builtin_radii(body: u32) -> Result<[f64; 3], Refused> {
+    face::builtin_radii(body)
+}

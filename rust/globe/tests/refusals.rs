@@ -1,0 +1,103 @@
+//! Each refusal, met through the safe crate: its number, its line, its words, and that a refused
+//! call changes nothing.
+
+use globe::{builtin_orientation, Pool, Refusal, Refused};
+
+const BODY: &str = "\\begindata\nBODY1_POLE_RA = 1\nBODY1_POLE_DEC = 2\n";
+
+fn at(refusal: Refusal, line: u32) -> Refused {
+    Refused { refusal, line }
+}
+
+/// What a load of a text is refused with; the pool keeps every word.
+fn refused(pool: &mut Pool, label: u32, text: &str) -> Refused {
+    let before = pool.words().to_vec();
+    let refused = pool.load(label, text).unwrap_err();
+    assert_eq!(pool.words(), before);
+    refused
+}
+
+#[test]
+fn of_loads() {
+    let mut pool = Pool::new();
+    pool.load(1, "").unwrap();
+    let long = "x".repeat(80);
+    assert_eq!(refused(&mut pool, 1, ""), at(Refusal::LabelHeld, 0));
+    let over = "\n".repeat(65_537);
+    assert_eq!(refused(&mut pool, 2, &over), at(Refusal::TextTooLong, 0));
+    assert_eq!(refused(&mut pool, 2, &long), at(Refusal::LineTooLong, 1));
+    let bad = "\\begindata\n\nX = 1\u{7f}";
+    assert_eq!(refused(&mut pool, 2, bad), at(Refusal::BadByte, 3));
+    let open = "\\begindata\nX = ( 1\n\n";
+    assert_eq!(refused(&mut pool, 2, open), at(Refusal::Syntax, 3));
+    let number = "\\begindata\nX = ( 1E23";
+    assert_eq!(refused(&mut pool, 2, number), at(Refusal::Number, 2));
+    let many = format!("\\begindata\n{}", "X = 1\n".repeat(513));
+    assert_eq!(refused(&mut pool, 2, &many), at(Refusal::NoRoom, 0));
+}
+
+#[test]
+fn of_removals_and_fetches() {
+    let mut pool = Pool::new();
+    pool.load(1, "\\begindata\nX = ( 1 2 )").unwrap();
+    let before = pool.words().to_vec();
+    assert_eq!(pool.remove(2), Err(at(Refusal::NotHeld, 0)));
+    assert_eq!(pool.words(), before);
+    let mut buffer = [7.0; 1];
+    let fetched = pool.fetch("Y", &mut buffer).unwrap_err();
+    assert_eq!(fetched, at(Refusal::NoVariable, 0));
+    let fetched = pool.fetch(b"X", &mut buffer).unwrap_err();
+    assert_eq!(fetched, at(Refusal::ShortBuffer, 0));
+    assert_eq!(buffer, [7.0]);
+}
+
+#[test]
+fn of_orientations_and_radii() {
+    let mut pool = Pool::new();
+    pool.load(1, BODY).unwrap();
+    let orientation = |pool: &Pool, epoch| pool.orientation(1, epoch).unwrap_err();
+    assert_eq!(orientation(&pool, f64::NAN), at(Refusal::Epoch, 0));
+    let unknown = pool.orientation(2, 0.0).unwrap_err();
+    assert_eq!(unknown, at(Refusal::UnknownBody, 0));
+    assert_eq!(orientation(&pool, 0.0), at(Refusal::Incomplete, 0));
+    pool.load(2, "\\begindata\nBODY1_PM = ( 1 2 3 4 )").unwrap();
+    assert_eq!(orientation(&pool, 0.0), at(Refusal::WrongCount, 0));
+    assert_eq!(pool.radii(1), Err(at(Refusal::UnknownBody, 0)));
+    pool.load(3, "\\begindata\nBODY1_RADII = 1").unwrap();
+    assert_eq!(pool.radii(1), Err(at(Refusal::WrongCount, 0)));
+    let negative = builtin_orientation(-31_i32 as u32, 0.0);
+    assert_eq!(negative, Err(at(Refusal::UnknownBody, 0)));
+}
+
+#[test]
+fn of_every_call_on_a_damaged_pool() {
+    let mut words: Box<[u64]> = Pool::new().words().into();
+    words[0] = 17;
+    let mut pool = Pool::from_words(words);
+    let damaged = at(Refusal::DamagedPool, 0);
+    assert_eq!(pool.load(1, ""), Err(damaged));
+    assert_eq!(pool.remove(1), Err(damaged));
+    assert_eq!(pool.clear(), Err(damaged));
+    assert_eq!(pool.fetch("X", &mut []), Err(damaged));
+    assert_eq!(pool.totals(), Err(damaged));
+    assert_eq!(pool.orientation(1, f64::NAN), Err(damaged));
+    assert_eq!(pool.radii(11), Err(damaged));
+    assert_eq!(pool.words()[0], 17);
+    assert_eq!(pool.make_empty(), Ok(()));
+    let short = pool.words().len() - 1;
+    let mut short = Pool::from_words(vec![0; short].into());
+    assert_eq!(short.make_empty(), Err(damaged));
+}
+
+#[test]
+fn numbers_and_words() {
+    for (place, refusal) in Refusal::ALL.into_iter().enumerate() {
+        assert_eq!(refusal.number() as usize, place + 1);
+        let shown = at(refusal, 0).to_string();
+        let (number, name) = (refusal.number(), refusal.name());
+        assert_eq!(shown, format!("refused {number} ({name}): {refusal}"));
+        assert!(refusal.to_string().contains(';'), "{refusal}: what to do?");
+    }
+    let shown = at(Refusal::Syntax, 12).to_string();
+    assert!(shown.starts_with("refused 5 (SYNTAX) at line 12: "));
+}
