@@ -1,5 +1,4 @@
--- What holds of every fault, of both sections' openings and of what a line's own bytes say holds of the answer to the line.
--- Assumes nothing.
+-- What holds of every fault, of a delimiter line and of what a line's own bytes say holds of the answer to the line. Assumes nothing.
 use Prim.Native.Nat.{ℕ}
 use mathlib.Core.Bool.{Bool, true, false}
 use mathlib.Core.List.{List, []}
@@ -41,16 +40,16 @@ module _ (P : Outcome → Type 0) (faulty : (q : Fault) (k : ℕ) → P (fault q
   holds-plain R.Open line h = holds-fairly line (said R.Open line) h
   holds-plain R.Filled line h = holds-fairly line (said R.Filled line) h
 
-  holds-section : (r s : Reader) → P (next s []) → P (section r s)
+  pub holds-section : (r s : Reader) → P (next s []) → P (section r s)
   holds-section R.Text s h = h
   holds-section R.Data s h = h
   holds-section R.Open s h = faulty F.OpenList 0
   holds-section R.Filled s h = faulty F.OpenList 0
 
-  module _ (in-data : P (next R.Data [])) (in-text : P (next R.Text [])) (r : Reader) (line : List ℕ) (h : P (said r line)) where
+  module _ (r : Reader) (line : List ℕ) (in-data : P (section r R.Data)) (in-text : P (section r R.Text)) (h : P (said r line)) where
     holds-marked : (m : Mark) → P (marked m r line)
-    holds-marked M.Data = holds-section r R.Data in-data
-    holds-marked M.Text = holds-section r R.Text in-text
+    holds-marked M.Data = in-data
+    holds-marked M.Text = in-text
     holds-marked M.Plain = holds-plain r line h
 
     pub holds-answered : P (answered r line)

@@ -14,7 +14,7 @@ use Rattle.plain.specs.Runs.{past}
 use Rattle.text.specs.Classes.{blank, nameByte, stands}
 use Rattle.text.specs.Values.{Given, given, wrong, valueAt, item, further, itemsUpTo, items, rest, some, listEnd, listed, alone, givenAt}
 use Rattle.text.specs.Statements.{Event, opened, value, named, head, openings, givings}
-use Rattle.text.specs.Line.{Outcome, next, fault, adding, stated, answered, counted}
+use Rattle.text.specs.Line.{Outcome, next, fault, adding, stated, section, answered, counted}
 use Rattle.text.specs.declared.faults.Fault.{Fault}
 use Rattle.text.specs.declared.faults.Fault.the-variants as F
 use Rattle.text.specs.declared.line.Answer.the-variants as A
@@ -28,7 +28,7 @@ use Rattle.text.specs.declared.values.Stop.{Stop}
 use Rattle.text.specs.declared.values.Stop.the-variants as S
 use Rattle.text.specs.declared.values.Word.{Word}
 use Rattle.text.specs.declared.values.Word.the-variants as W
-use Rattle.text.proofs.Answers.{said, holds-answered}
+use Rattle.text.proofs.Answers.{said, holds-section, holds-answered}
 use Rattle.text.proofs.Events.{openings-append, givings-append, openings-values, givings-values}
 
 -- ---- values
@@ -120,8 +120,13 @@ few-said R.Open line = few-adding (length line) [] (listed false line 0) (omega 
 few-said R.Filled line = few-adding (length line) [] (listed true line 0) (omega arith) refl (few-listed true line 0)
 
 few-answered : (r : Reader) (line : List ℕ) → Few (length line) (answered r line)
-few-answered r line =
-    holds-answered (Few (length line)) (λ q k. tt) (omega arith, omega arith) (omega arith, omega arith) r line (few-said r line)
+few-answered r line = holds-answered (Few (length line)) faulty r line (opens R.Data) (opens R.Text) (few-said r line)
+  where
+    faulty : (q : Fault) (k : ℕ) → Few (length line) (fault q k)
+    faulty q k = tt
+
+    opens : (s : Reader) → Few (length line) (section r s)
+    opens s = holds-section (Few (length line)) faulty r s (omega arith, omega arith)
 
 counts-few : (n : ℕ) (o : Outcome) (s : Reader) (a b : ℕ) → Few n o → counted o ≡ A.Next s a b → (a ≤ 1) × (b ≤ n)
 counts-few n (fault q k) s a b f e = let z : _≡_ {A = ℕ} 0 1 = cc in absurd (omega arith)

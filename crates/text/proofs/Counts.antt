@@ -15,7 +15,7 @@ use Rattle.text.specs.declared.line.Reader.{Reader}
 use Rattle.text.specs.declared.line.Reader.the-variants as R
 use Rattle.text.specs.declared.statements.Head.{Head}
 use Rattle.text.specs.declared.statements.Head.the-variants as H
-use Rattle.text.proofs.Answers.{said, holds-answered}
+use Rattle.text.proofs.Answers.{said, holds-section, holds-answered}
 
 -- ---- of any events
 
@@ -71,7 +71,10 @@ said-opens R.Open line h = absurd h
 said-opens R.Filled line h = absurd h
 
 line-opens : (r : Reader) (line : List ℕ) → Outside r → OpensFirst (answered r line)
-line-opens r line h = holds-answered OpensFirst (λ q k. tt) tt tt r line (said-opens r line h)
+line-opens r line h = holds-answered OpensFirst faulty r line (holds-section OpensFirst faulty r R.Data tt) (holds-section OpensFirst faulty r R.Text tt) (said-opens r line h)
+  where
+    faulty : (q : Fault) (k : ℕ) → OpensFirst (fault q k)
+    faulty q k = tt
 
 -- what is read has no loose value
 abbrev Tidy : Read → Type 0

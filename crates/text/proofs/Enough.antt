@@ -39,25 +39,33 @@ from-told (D.Number y) i e k x q = (cc, cc)
 from-told D.BadForm i e k x q = let z : _≡_ {A = ℕ} 0 1 = cc in absurd (omega arith)
 from-told D.OutsideClass i e k x q = let z : _≡_ {A = ℕ} 0 1 = cc in absurd (omega arith)
 
+-- a value that is a number is what the run of its bytes is read as
+pub value-read : (line : List ℕ) (i k : ℕ) (x : Float) → valueAt line i ≡ W.Number x k
+    → (reading (run valueByte (drop i line)) ≡ D.Number x) × (past valueByte line i ≡ k)
+unfolding valueAt
+value-read line i k x q = from-told (reading (run valueByte (drop i line))) i (past valueByte line i) k x q
+
 from-item : (t s : Bool) (i : ℕ) (w : Word) (k : ℕ) (x : Float) → (if t then (if s then I.Close i else asItem w) else I.End) ≡ I.Number x k → w ≡ W.Number x k
 from-item true true i w k x q = let z : _≡_ {A = ℕ} 0 1 = cc in absurd (omega arith)
 from-item true false i (W.Number y n) k x q = cc
 from-item true false i (W.Fault y n) k x q = let z : _≡_ {A = ℕ} 0 1 = cc in absurd (omega arith)
 from-item false s i w k x q = let z : _≡_ {A = ℕ} 0 1 = cc in absurd (omega arith)
 
-value-on : (line : List ℕ) (i k : ℕ) (x : Float) → valueAt line i ≡ W.Number x k → i < k
-unfolding valueAt past
-value-on line i k x q =
-    let bs = run valueByte (drop i line) in
-    let w = from-told (reading bs) i (past valueByte line i) k x q in
-    omega (arith, some-bytes bs x (w .0), w .1)
+-- a number of a list is what some bytes of the line are read as
+pub item-read : (line : List ℕ) (i k : ℕ) (x : Float) → item line i ≡ I.Number x k
+    → let p = past separator line i in (reading (run valueByte (drop p line)) ≡ D.Number x) × (past valueByte line p ≡ k)
+unfolding item
+item-read line i k x q =
+    let p = past separator line i in
+    value-read line p k x (from-item (ltb p (length line)) (stands CLOSE line p) p (valueAt line p) k x q)
 
 -- the place after a number is past the place where it was looked for
 pub number-on : (line : List ℕ) (i k : ℕ) (x : Float) → item line i ≡ I.Number x k → i < k
-unfolding item
+unfolding past
 number-on line i k x q =
     let p = past separator line i in
-    omega (arith, past-after separator line i, value-on line p k x (from-item (ltb p (length line)) (stands CLOSE line p) p (valueAt line p) k x q))
+    let w = item-read line i k x q in
+    omega (arith, past-after separator line i, some-bytes (run valueByte (drop p line)) x (w .0), w .1)
 
 -- ---- enough is enough
 

@@ -1,4 +1,5 @@
 -- Laws that several proofs use, and the theorems about the definitions.
+-- the code
 pub mod Masks
 pub mod Words
 pub mod Standing
@@ -9,7 +10,12 @@ pub mod LineEnds
 pub mod Answers
 pub mod Bounds
 pub mod Tallies
+-- the definitions
 pub mod Enough
 pub mod Passing
-pub mod Counts
 pub mod FirstFault
+pub mod Counts
+pub mod Each
+pub mod Names
+pub mod Numbers
+pub mod Legal
