@@ -12,7 +12,7 @@ use Rattle.decimal.specs.Class.{reading}
 use Rattle.decimal.specs.declared.Reading.the-variants as D
 use Rattle.text.specs.Lines.{lines}
 use Rattle.text.specs.Line.{Outcome, next, fault, adding, stated, section, answered}
-use Rattle.text.specs.Statements.{Event, opened, value, Statement, Gathered, gathered, statements, named, head}
+use Rattle.text.specs.Statements.{Event, opened, value, Statement, Gathered, gathered, statements, head}
 use Rattle.text.specs.Text.{Read, fine, refused, finished, preceded, then, readFrom, readText}
 use Rattle.text.specs.Values.{Given, given, wrong, listed, givenAt}
 use Rattle.text.specs.declared.faults.Fault.{Fault}
@@ -37,17 +37,17 @@ gathered-values : (xs : List Float) (es : List Event)
 gathered-values [] es = refl
 gathered-values (x ∷ xs) es = rw (gathered-values xs es)
 
--- values that follow a list without numbers so far
-abbrev Lacking : Reader → List ℕ → Type 0
-Lacking R.Open vs = 1 ≤ length vs
-Lacking R.Text vs = Unit
-Lacking R.Data vs = Unit
-Lacking R.Filled vs = Unit
+-- the values that a reader's list still gets: outside a list none, and one at least for a list that has none
+abbrev Awaited : Reader → List ℕ → Type 0
+Awaited R.Text vs = vs ≡ []
+Awaited R.Data vs = vs ≡ []
+Awaited R.Open vs = 1 ≤ length vs
+Awaited R.Filled vs = Unit
 
--- what follows a reader: legal statements, and before them values that fill the reader's list
+-- what follows a reader: the values that its list still gets, and legal statements
 record Sound (P : ℕ → Type 0) (r : Reader) (g : Gathered) : Type 0 where
   so : Each P (g .loose)
-  enough : Lacking r (g .loose)
+  enough : Awaited r (g .loose)
   legal : Each (Legal P) (g .statements)
 
 -- a line after which sound events are sound before it too
@@ -65,7 +65,7 @@ module _ (P : ℕ → Type 0) where
   each-joined [] vs h g = g
   each-joined (x ∷ xs) vs h g = (h .0, each-joined xs vs (h .1) g)
 
-  filling : (s : Reader) (xs : List Float) (vs : List ℕ) → Filling s xs → Lacking s vs → 1 ≤ length (map (toBits binary64) xs ++ vs)
+  filling : (s : Reader) (xs : List Float) (vs : List ℕ) → Filling s xs → Awaited s vs → 1 ≤ length (map (toBits binary64) xs ++ vs)
   filling R.Open xs vs f l = omega (arith, length-append (map (toBits binary64) xs) vs)
   filling R.Text xs vs f l = omega (arith, length-append (map (toBits binary64) xs) vs, length-map xs (toBits binary64))
   filling R.Data xs vs f l = omega (arith, length-append (map (toBits binary64) xs) vs, length-map xs (toBits binary64))
@@ -86,31 +86,31 @@ module _ (P : ℕ → Type 0) where
       rw (gathered-values xs es)
       (record {
         so = tt;
-        enough = tt;
+        enough = refl;
         legal = (
           record { named = l; filled = filling s xs (gathered es .loose) (h .1) (e .enough); values = each-joined xs (gathered es .loose) (h .0) (e .so) },
           e .legal,
         );
       })
 
-  step-section : (r s : Reader) → Step P r (section r s)
-  step-section R.Text s = λ es e. record { so = e .so; enough = tt; legal = e .legal }
-  step-section R.Data s = λ es e. record { so = e .so; enough = tt; legal = e .legal }
-  step-section R.Open s = tt
-  step-section R.Filled s = tt
+  step-section : (r s : Reader) → ((vs : List ℕ) → Awaited s vs → vs ≡ []) → Step P r (section r s)
+  step-section R.Text s f = λ es e. record { so = e .so; enough = f (gathered es .loose) (e .enough); legal = e .legal }
+  step-section R.Data s f = λ es e. record { so = e .so; enough = f (gathered es .loose) (e .enough); legal = e .legal }
+  step-section R.Open s f = tt
+  step-section R.Filled s f = tt
 
   sound-before : (r s : Reader) (fs : List Event) (x : Read) → Step P r (next s fs) → SoundRead P s x → SoundRead P r (preceded fs x)
   sound-before r s fs (fine es) f h = f es h
   sound-before r s fs (refused q n k) f h = tt
 
   sound-end : (r : Reader) (number long : ℕ) → SoundRead P r (finished r number long)
-  sound-end R.Text number long = record { so = tt; enough = tt; legal = tt }
-  sound-end R.Data number long = record { so = tt; enough = tt; legal = tt }
+  sound-end R.Text number long = record { so = tt; enough = refl; legal = tt }
+  sound-end R.Data number long = record { so = tt; enough = refl; legal = tt }
   sound-end R.Open number long = tt
   sound-end R.Filled number long = tt
 
-  from-sound : (r : Reader) (x : Read) (es : List Event) → SoundRead P r x → x ≡ fine es → Each (Legal P) (statements es)
-  from-sound r (fine fs) es h e = let z : fs ≡ es = cc in rw z at (h .legal)
+  from-sound : (r : Reader) (x : Read) (es : List Event) → SoundRead P r x → x ≡ fine es → Sound P r (gathered es)
+  from-sound r (fine fs) es h e = let z : fs ≡ es = cc in rw z at h
   from-sound r (refused q n k) es h e = let z : _≡_ {A = ℕ} 0 1 = cc in absurd (omega arith)
 
   module _ (read : (bs : List ℕ) (x : Float) → reading bs ≡ D.Number x → P (toBits binary64 x)) where
@@ -126,7 +126,7 @@ module _ (P : ℕ → Type 0) where
     step-said R.Filled line = step-list true (listed true line 0) (good-listed (λ x. P (toBits binary64 x)) read true line 0)
 
     step-answered : (r : Reader) (line : List ℕ) → Step P r (answered r line)
-    step-answered r line = holds-answered (Step P r) (λ q k. tt) r line (step-section r R.Data) (step-section r R.Text) (step-said r line)
+    step-answered r line = holds-answered (Step P r) (λ q k. tt) r line (step-section r R.Data (λ vs e. e)) (step-section r R.Text (λ vs e. e)) (step-said r line)
 
     sound-lines : (r : Reader) (number long : ℕ) (ls : List (List ℕ)) → SoundRead P r (readFrom r number long ls)
     unfolding readFrom
@@ -138,7 +138,14 @@ module _ (P : ℕ → Type 0) where
         by (next s fs) f g = sound-before r s fs (readFrom s (number + 1) (length l) ls) f (g s)
         by (fault q k) f g = tt
 
+    sound-text : (text : List ℕ) (es : List Event) → readText text ≡ fine es → Sound P R.Text (gathered es)
+    unfolding readText
+    sound-text text es e = from-sound R.Text (readText text) es (sound-lines R.Text 0 0 (lines text)) e
+
     -- the statements of an admitted text, where the bits of every number that is read are so
     pub all-legal : (text : List ℕ) (es : List Event) → readText text ≡ fine es → Each (Legal P) (statements es)
-    unfolding readText
-    all-legal text es e = from-sound R.Text (readText text) es (sound-lines R.Text 0 0 (lines text)) e
+    all-legal text es e = sound-text text es e .legal
+
+-- every value of an admitted text stands in a statement
+pub none-loose : (text : List ℕ) (es : List Event) → readText text ≡ fine es → gathered es .loose ≡ []
+none-loose text es e = sound-text (λ v. Unit) (λ bs x r. tt) text es e .enough

@@ -14,8 +14,8 @@ pub mod Tallies
 pub mod Enough
 pub mod Passing
 pub mod FirstFault
-pub mod Counts
 pub mod Each
 pub mod Names
 pub mod Numbers
 pub mod Legal
+pub mod Counts

@@ -12,7 +12,6 @@ use Rattle.plain.specs.Runs.{run, past}
 use Rattle.plain.proofs.Places.{take-past}
 use Rattle.text.specs.Classes.{blank, nameByte, stands}
 use Rattle.text.specs.Statements.{NAME, operated, named, head}
-use Rattle.text.specs.Text.{then}
 use Rattle.text.specs.declared.faults.Fault.{Fault}
 use Rattle.text.specs.declared.faults.Fault.the-variants as F
 use Rattle.text.specs.declared.statements.Head.{Head}

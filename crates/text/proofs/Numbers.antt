@@ -14,7 +14,6 @@ use Rattle.plain.specs.Runs.{run, past}
 use Rattle.decimal.specs.Class.{reading}
 use Rattle.decimal.specs.declared.Reading.the-variants as D
 use Rattle.text.specs.Classes.{blank, separator, valueByte, stands}
-use Rattle.text.specs.Text.{then}
 use Rattle.text.specs.Values.{Given, given, wrong, valueAt, item, further, itemsUpTo, items, rest, some, listEnd, listed, alone, givenAt}
 use Rattle.text.specs.declared.faults.Fault.{Fault}
 use Rattle.text.specs.declared.faults.Fault.the-variants as F
