@@ -1,2 +1,25 @@
 -- What is promised, proved.
+pub mod Contracts
+pub mod Refusals
+pub mod Reports
+pub mod Fetched
+pub mod Accepted
+pub mod Oriented
+pub mod Measured
+pub mod Given
+pub mod Room
+pub mod Labels
+pub mod Together
+pub mod Said
+pub mod Held
+pub mod Overflow
+pub mod Small
+pub mod Proper
+pub mod Fair
+pub mod Steps
+pub mod Histories
+pub mod Sentence
 pub mod Marked
+pub mod Instances
+pub mod Useless
+pub mod Wrong

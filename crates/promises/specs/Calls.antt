@@ -11,10 +11,11 @@ use Rattle.rotation.specs.declared.matrix.Oriented.{Oriented}
 use Rattle.rotation.specs.declared.matrix.Oriented.the-variants as O
 use Rattle.rotation.specs.declared.table.Radii.{Radii}
 use Rattle.rotation.specs.declared.table.Radii.the-variants as A
-use Rattle.pool.specs.Replies.{replyNumber, fetchedNumber, countsNumber}
+use Rattle.pool.specs.Replies.{replyNumber, replyLine, fetchedNumber, fetchedCount, countsNumber}
 use Rattle.pool.specs.declared.reply.Reply.{Reply}
 use Rattle.pool.specs.declared.reply.Fetched.{Fetched}
 use Rattle.pool.specs.declared.reply.Counts.{Counts}
+use Rattle.pool.specs.declared.reply.Counts.the-variants as T
 use Rattle.pool.specs.Empty.{emptyReply, clearReply, emptied}
 use Rattle.pool.specs.Load.{loadReply, loadMemory}
 use Rattle.pool.specs.Remove.{removeReply, removeMemory}
@@ -64,7 +65,31 @@ leaves totals m = m
 leaves (orientation source code epoch) m = m
 leaves (radii source code) m = m
 
--- document 01's number of an answer
+-- a call that is lent the pool to read only
+abbrev pub query : Call → Bool
+query makeEmpty = false
+query (load label bytes) = false
+query (remove label) = false
+query clear = false
+query (fetch name buffer) = true
+query totals = true
+query (orientation source code epoch) = true
+query (radii source code) = true
+
+-- ---- builds
+
+-- a build of the library: what each call answers on a memory, and the memory that it leaves
+pub record Build : Type 0 where
+  pub answer : Call → (m : List ℕ) → Answer
+  pub memory : Call → (m : List ℕ) → List ℕ
+
+-- this one, by its contracts
+abbrev pub library : Build
+library = record { answer = asked; memory = leaves }
+
+-- ---- an answer as document 01 gives it: "success is number 0 with line 0 .. a refusal returns its number, for 3 to 6 the line (0 for all
+-- others), and no values"
+
 abbrev pub number : Answer → ℕ
 number (replied r) = replyNumber r
 number (fetched r buffer) = fetchedNumber r
@@ -76,6 +101,41 @@ number (measured (A.Refused q)) = numberOf q
 
 abbrev pub accepted : Answer → Bool
 accepted a = eqb (number a) SUCCESS
+
+abbrev pub line : Answer → ℕ
+line (replied r) = replyLine r
+line (fetched r buffer) = 0
+line (counted r) = 0
+line (oriented r) = 0
+line (measured r) = 0
+
+-- "fetch also tells the count (0 when refused)"
+abbrev pub count : Answer → ℕ
+count (replied r) = 0
+count (fetched r buffer) = fetchedCount r
+count (counted r) = 0
+count (oriented r) = 0
+count (measured r) = 0
+
+-- pole, meridian and the matrix, row by row; the radii
+abbrev pub doubles : Answer → List Float
+doubles (replied r) = []
+doubles (fetched r buffer) = []
+doubles (counted r) = []
+doubles (oriented (O.Given o)) =
+    o .ra ∷ o .dec ∷ o .w ∷ o .m11 ∷ o .m12 ∷ o .m13 ∷ o .m21 ∷ o .m22 ∷ o .m23 ∷ o .m31 ∷ o .m32 ∷ o .m33 ∷ []
+doubles (oriented (O.Refused q)) = []
+doubles (measured (A.Given x)) = x .a ∷ x .b ∷ x .c ∷ []
+doubles (measured (A.Refused q)) = []
+
+-- the totals: texts, statements, values
+abbrev pub totalled : Answer → List ℕ
+totalled (replied r) = []
+totalled (fetched r buffer) = []
+totalled (counted (T.Held texts statements values)) = texts ∷ statements ∷ values ∷ []
+totalled (counted (T.Refused q)) = []
+totalled (oriented r) = []
+totalled (measured r) = []
 
 -- ---- the buffer that a call is lent, and the one that it gives back
 

@@ -1,36 +1,118 @@
 -- Demands 1 and 2, as the customer says them. Definitions only; the theorems are in proofs/.
 use Prim.Native.Nat.{ℕ, _≤_}
 use mathlib.Core.Path.{_≡_}
-use mathlib.Core.Bool.{Bool, true, false}
-use mathlib.Core.List.{List}
+use mathlib.Core.Bool.{true, false}
+use mathlib.Core.List.{List, [], _∷_, _++_}
+use mathlib.Core.Logic.{_↔_}
 use lib.Ieee.{Float}
-use lib.ListN.{length}
+use lib.ListN.{length, drop}
+use Rattle.plain.specs.Bytes.{within}
 use Rattle.rotation.specs.Epochs.{inReach}
 use Rattle.rotation.specs.Codes.{systemOf}
 use Rattle.rotation.specs.Evaluation.{evaluated}
+use Rattle.rotation.specs.Table.{rowOf, sizeOf}
+use Rattle.rotation.specs.Builtin.{rowEvaluated}
+use Rattle.rotation.specs.Range.{InRange}
+use Rattle.rotation.specs.Finite.{Finite}
 use Rattle.rotation.specs.declared.code.System.the-variants.{Of}
+use Rattle.rotation.specs.declared.elements.Elements.{Elements}
 use Rattle.rotation.specs.declared.matrix.Orientation.{Orientation}
-use Rattle.rotation.specs.declared.matrix.Oriented.the-variants.{Given}
+use Rattle.rotation.specs.declared.matrix.Oriented.{Oriented}
+use Rattle.rotation.specs.declared.matrix.Oriented.the-variants as O
+use Rattle.rotation.specs.declared.table.Axes.{Axes}
+use Rattle.rotation.specs.declared.table.Radii.{Radii}
+use Rattle.rotation.specs.declared.table.Radii.the-variants as A
+use Rattle.rotation.specs.declared.table.Row.the-variants.{Held}
+use Rattle.rotation.specs.declared.table.Size.the-variants.{Known}
 use Rattle.text.specs.Statements.{Event}
 use Rattle.text.specs.Text.{fine, readText}
 use Rattle.layout.specs.State.{Pool}
 use Rattle.layout.specs.Limits.{room}
 use Rattle.layout.specs.Memory.{decode}
 use Rattle.layout.specs.Damage.{sound}
-use Rattle.pool.specs.Load.{LONGEST, held, textOf, with}
-use Rattle.globe.specs.Elements.{noneThere, complete, wellCounted, elements, angles, list}
+use Rattle.pool.specs.Empty.{Empties, Clears}
+use Rattle.pool.specs.Load.{LONGEST, held, textOf, with, Loads}
+use Rattle.pool.specs.Remove.{Removes}
+use Rattle.pool.specs.Fetch as F
+use Rattle.pool.specs.Fetch.{Fetches}
+use Rattle.pool.specs.Totals.{Totals}
+use Rattle.pool.specs.declared.reply.Reply.{Reply}
+use Rattle.pool.specs.declared.reply.Fetched.{Fetched}
+use Rattle.pool.specs.declared.reply.Counts.{Counts}
+use Rattle.globe.specs.Elements.{there, noneThere, complete, wellCounted, elements, angles, list}
+use Rattle.globe.specs.Orientation.{Orients}
+use Rattle.globe.specs.Radii.{Measures}
+use Rattle.globe.specs.declared.source.Source.{Source}
+use Rattle.globe.specs.declared.source.Source.the-variants as S
 use Rattle.globe.specs.declared.name.Wanted.the-variants as W
-use Rattle.promises.specs.Calls.{Call, asked, leaves, accepted, lent, returned}
+use Rattle.promises.specs.Calls as C
+use Rattle.promises.specs.Calls.{Call, load, orientation, radii, oriented, measured, query, Build, number, line, count, doubles, totalled, accepted, lent, returned}
 
--- ---- demand 1: "a refusal changes nothing in the pool or any lent buffer"
+-- ---- demand 1: "every public call has a contract that determines result and lent memory entirely, refusals too"
 
-abbrev pub RefusalChangesNothing : Type 0
-RefusalChangesNothing =
-    (c : Call) (m : List ℕ) → accepted (asked c m) ≡ false → (leaves c m ≡ m) × (returned (asked c m) ≡ lent c)
+-- each call meets its contract: the record that the function of `globe` ensures; and a call that is lent the pool to read only leaves it
+pub record Contracts (b : Build) : Type 0 where
+  pub makeEmpty : (m : List ℕ) (r : Reply) → b .answer C.makeEmpty m ≡ C.replied r → Empties m r (b .memory C.makeEmpty m)
+  pub load :
+      (label : ℕ) (bytes m : List ℕ) (r : Reply) → b .answer (C.load label bytes) m ≡ C.replied r
+      → Loads label bytes m r (b .memory (C.load label bytes) m)
+  pub remove :
+      (label : ℕ) (m : List ℕ) (r : Reply) → b .answer (C.remove label) m ≡ C.replied r → Removes label m r (b .memory (C.remove label) m)
+  pub clear : (m : List ℕ) (r : Reply) → b .answer C.clear m ≡ C.replied r → Clears m r (b .memory C.clear m)
+  pub fetch :
+      (name m : List ℕ) (buffer after : List Float) (r : Fetched) → b .answer (C.fetch name buffer) m ≡ C.fetched r after
+      → Fetches name m buffer r after
+  pub totals : (m : List ℕ) (r : Counts) → b .answer C.totals m ≡ C.counted r → Totals m r
+  pub orientation :
+      (source : Source) (m : List ℕ) (n : ℕ) (epoch : Float) (r : Oriented) → b .answer (C.orientation source n epoch) m ≡ C.oriented r
+      → Orients source m n epoch r
+  pub radii :
+      (source : Source) (m : List ℕ) (n : ℕ) (r : Radii) → b .answer (C.radii source n) m ≡ C.measured r → Measures source m n r
+  pub queries : (c : Call) (m : List ℕ) → query c ≡ true → b .memory c m ≡ m
+
+-- "that no second answer could satisfy it is itself proved"
+
+-- one answer at most meets a contract on the answer; of one on the answer and what is left in lent memory, one pair at most
+abbrev pub OneAnswer : {A : Type 0} → (A → Type 0) → Type 0
+OneAnswer {A} Meets = (r r′ : A) → Meets r → Meets r′ → r ≡ r′
+
+abbrev pub OneOutcome : {A B : Type 0} → (A → B → Type 0) → Type 0
+OneOutcome {A} {B} Meets = (r r′ : A) (after after′ : B) → Meets r after → Meets r′ after′ → (r ≡ r′) × (after ≡ after′)
+
+pub record NoSecondAnswer : Type 0 where
+  pub makeEmpty : (before : List ℕ) → OneOutcome (Empties before)
+  pub load : (label : ℕ) (bytes before : List ℕ) → OneOutcome (Loads label bytes before)
+  pub remove : (label : ℕ) (before : List ℕ) → OneOutcome (Removes label before)
+  pub clear : (before : List ℕ) → OneOutcome (Clears before)
+  pub fetch : (name memory : List ℕ) (before : List Float) → OneOutcome (Fetches name memory before)
+  pub totals : (memory : List ℕ) → OneAnswer (Totals memory)
+  pub orientation : (source : Source) (memory : List ℕ) (n : ℕ) (epoch : Float) → OneAnswer (Orients source memory n epoch)
+  pub radii : (source : Source) (memory : List ℕ) (n : ℕ) → OneAnswer (Measures source memory n)
+
+-- "success is number 0 with line 0, and fetch also tells the count (0 when refused). A refusal returns its number, for 3 to 6 the line (0
+-- for all others), and no values"
+pub record Reports (b : Build) : Type 0 where
+  pub success : (c : Call) (m : List ℕ) → accepted (b .answer c m) ≡ true → line (b .answer c m) ≡ 0
+  pub others : (c : Call) (m : List ℕ) → within 3 6 (number (b .answer c m)) ≡ false → line (b .answer c m) ≡ 0
+  pub noValues :
+      (c : Call) (m : List ℕ) → accepted (b .answer c m) ≡ false
+      → (count (b .answer c m) ≡ 0) × (doubles (b .answer c m) ≡ []) × (totalled (b .answer c m) ≡ [])
+
+-- "a refusal changes nothing in the pool or any lent buffer"
+abbrev pub RefusalChangesNothing : Build → Type 0
+RefusalChangesNothing b =
+    (c : Call) (m : List ℕ) → accepted (b .answer c m) ≡ false → (b .memory c m ≡ m) × (returned (b .answer c m) ≡ lent c)
+
+-- "a successful fetch writes the values from the buffer's start and no further"
+abbrev pub FetchWrites : Build → Type 0
+FetchWrites b =
+    (name m : List ℕ) (buffer : List Float) → accepted (b .answer (C.fetch name buffer) m) ≡ true
+    → (count (b .answer (C.fetch name buffer) m) ≡ length (F.doubles name (decode m)))
+    × (returned (b .answer (C.fetch name buffer) m) ≡ F.doubles name (decode m) ++ drop (length (F.doubles name (decode m))) buffer)
 
 -- "no call damages an undamaged pool"
-abbrev pub NoDamage : Type 0
-NoDamage = (c : Call) (m : List ℕ) → sound m ≡ true → sound (leaves c m) ≡ true
+abbrev pub NoDamage : Build → Type 0
+NoDamage b = (c : Call) (m : List ℕ) → sound m ≡ true → sound (b .memory c m) ≡ true
 
 -- ---- demand 2: "a text is accepted exactly when its label is not held, the rules admit it and the undamaged pool has room"
 
@@ -53,3 +135,50 @@ pub record HasElements (s : Pool) (n : ℕ) (epoch : Float) (o : Orientation) : 
   pub counts : wellCounted s n system ≡ true
   pub evaluation :
       o ≡ evaluated (elements s n) epoch (angles s n system) (list s n W.NutPrecRa) (list s n W.NutPrecDec) (list s n W.NutPrecPm)
+
+-- the same of the built-in table: it has a row for the code
+pub record HasRow (n : ℕ) (epoch : Float) (o : Orientation) : Type 0 where
+  pub reach : inReach epoch ≡ true
+  pub system : ℕ
+  pub legal : systemOf n ≡ Of system
+  pub row : Elements
+  pub listed : rowOf n ≡ Held row
+  pub evaluation : o ≡ rowEvaluated n row epoch
+
+-- "radii are the source's three values": of the texts of a pool
+pub record HasRadii (s : Pool) (n : ℕ) (x : Axes) : Type 0 where
+  pub system : ℕ
+  pub legal : systemOf n ≡ Of system
+  pub some : there s n W.Radii ≡ true
+  pub three : list s n W.Radii ≡ x .a ∷ x .b ∷ x .c ∷ []
+
+-- "exactly when", both ways, of any build
+pub record Demand2 (b : Build) : Type 0 where
+  pub texts : (label : ℕ) (bytes m : List ℕ) → (accepted (b .answer (load label bytes) m) ≡ true) ↔ Admissible label bytes m
+  pub poolOrientations :
+      (m : List ℕ) (n : ℕ) (epoch : Float) (o : Orientation)
+      → (b .answer (orientation S.Pool n epoch) m ≡ oriented (O.Given o)) ↔ ((sound m ≡ true) × HasElements (decode m) n epoch o)
+  pub tableOrientations :
+      (m : List ℕ) (n : ℕ) (epoch : Float) (o : Orientation)
+      → (b .answer (orientation S.Builtin n epoch) m ≡ oriented (O.Given o)) ↔ HasRow n epoch o
+  pub poolRadii :
+      (m : List ℕ) (n : ℕ) (x : Axes)
+      → (b .answer (radii S.Pool n) m ≡ measured (A.Given x)) ↔ ((sound m ≡ true) × HasRadii (decode m) n x)
+  pub tableRadii : (m : List ℕ) (n : ℕ) (x : Axes) → (b .answer (radii S.Builtin n) m ≡ measured (A.Given x)) ↔ (sizeOf n ≡ Known x)
+  pub ranges :
+      (source : Source) (m : List ℕ) (n : ℕ) (epoch : Float) (o : Orientation)
+      → b .answer (orientation source n epoch) m ≡ oriented (O.Given o) → InRange o
+
+-- "every held value finite and of size below 2^200, so that no evaluation overflows"
+abbrev pub NoOverflow : Build → Type 0
+NoOverflow b =
+    (source : Source) (m : List ℕ) (n : ℕ) (epoch : Float) (o : Orientation)
+    → b .answer (orientation source n epoch) m ≡ oriented (O.Given o) → Finite o
+
+-- "the two are never blended"; "fifteen is not checked where the built-in source is named": a table's answer does not look at the memory, and a
+-- pool's only at its texts
+pub record NeverBlended (b : Build) : Type 0 where
+  pub tableOrientations :
+      (m m′ : List ℕ) (n : ℕ) (epoch : Float) → b .answer (orientation S.Builtin n epoch) m ≡ b .answer (orientation S.Builtin n epoch) m′
+  pub tableRadii : (m m′ : List ℕ) (n : ℕ) → b .answer (radii S.Builtin n) m ≡ b .answer (radii S.Builtin n) m′
+  pub pools : (c : Call) (m m′ : List ℕ) → sound m ≡ true → sound m′ ≡ true → decode m ≡ decode m′ → b .answer c m ≡ b .answer c m′

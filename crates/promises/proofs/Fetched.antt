@@ -1,0 +1,70 @@
+-- A successful fetch writes the values from the buffer's start and no further: it is done only where they have room, and what is written
+-- over ends with them. Assumes nothing.
+use Prim.Native.Nat.{ℕ, _≤_}
+use native.Mathlib.Nat.{not-suc-le-zero, le-of-suc-le-suc}
+use mathlib.Core.Path.{_≡_, refl, sym, ap, subst}
+use mathlib.Core.Bool.{Bool, true, false, true≢false}
+use mathlib.Core.List.{List, [], _∷_, _++_}
+use borrow.Author.Tests.{leb-true}
+use lib.Dec.{eqb, leb}
+use lib.Ieee.{Float, binary64, ofBits}
+use lib.ListN.{length, drop, length-map}
+use Rattle.plain.specs.Choice.{if_then_else_}
+use Rattle.refusal.specs.Numbers.{SUCCESS}
+use Rattle.refusal.specs.declared.Refusal.the-variants.{DamagedPool}
+use Rattle.words.specs.Over.{over}
+use Rattle.layout.specs.State.{Pool}
+use Rattle.layout.specs.Memory.{decode}
+use Rattle.layout.specs.Damage.{sound}
+use Rattle.pool.specs.Replies.{fetchedNumber, fetchedCount}
+use Rattle.pool.specs.Variables.{variable, present}
+use Rattle.pool.specs.Fetch.{doubles, foundIn, filled, fetched, fetchReply, fetchBuffer}
+use Rattle.pool.specs.declared.reply.Fetched.{Fetched}
+use Rattle.pool.specs.declared.reply.Fetched.the-variants.{Count, Refused}
+use Rattle.pool.specs.declared.variable.Found.{Found}
+use Rattle.pool.specs.declared.variable.Found.the-variants as W
+use Rattle.promises.specs.Calls.{asked, library}
+use Rattle.promises.specs.Demands.{FetchWrites}
+
+over-start : (xs m : List Float) → length xs ≤ length m → over 0 xs m ≡ xs ++ drop (length xs) m
+unfolding over
+over-start [] [] h = refl
+over-start [] (y ∷ m) h = refl
+over-start (x ∷ xs) [] h = absurd (not-suc-le-zero h)
+over-start (x ∷ xs) (y ∷ m) h = ap (λ (l : List Float). x ∷ l) (over-start xs m (le-of-suc-le-suc h))
+
+-- so many are told, and the buffer is the values and what it held behind them
+record Written (xs buffer : List Float) (r : Fetched) (after : List Float) : Type 0 where
+  told : fetchedCount r ≡ length xs
+  holds : after ≡ xs ++ drop (length xs) buffer
+
+module _ (name : List ℕ) (s : Pool) (buffer : List Float) where
+  by-room : (b : Bool) → leb (length (variable name s)) (length buffer) ≡ b
+      → eqb (fetchedNumber (fetched (if b then W.Count (length (variable name s)) else W.TooMany))) SUCCESS ≡ true
+      → Written (doubles name s) buffer (fetched (if b then W.Count (length (variable name s)) else W.TooMany)) (filled (if b then W.Count (length (variable name s)) else W.TooMany) (doubles name s) buffer)
+  by-room true e h =
+      let l : length (doubles name s) ≡ length (variable name s) = length-map (variable name s) (ofBits binary64) in
+      record { told = sym l; holds = over-start (doubles name s) buffer (subst (λ (n : ℕ). n ≤ length buffer) (sym l) (leb-true (length (variable name s)) (length buffer) e)) }
+  by-room false e h = absurd (true≢false (sym h))
+
+  found-written : eqb (fetchedNumber (fetched (foundIn name (length buffer) s))) SUCCESS ≡ true
+      → Written (doubles name s) buffer (fetched (foundIn name (length buffer) s)) (filled (foundIn name (length buffer) s) (doubles name s) buffer)
+  unfolding foundIn
+  found-written h = by (present name s) h
+    where
+      found : Bool → Found
+      found b = if b then (if leb (length (variable name s)) (length buffer) then W.Count (length (variable name s)) else W.TooMany) else W.Absent
+
+      by : (b : Bool) → eqb (fetchedNumber (fetched (found b))) SUCCESS ≡ true → Written (doubles name s) buffer (fetched (found b)) (filled (found b) (doubles name s) buffer)
+      by true h = by-room (leb (length (variable name s)) (length buffer)) refl h
+      by false h = absurd (true≢false (sym h))
+
+written : (name m : List ℕ) (buffer : List Float) (b : Bool) → eqb (fetchedNumber (if b then fetched (foundIn name (length buffer) (decode m)) else Refused DamagedPool)) SUCCESS ≡ true
+    → Written (doubles name (decode m)) buffer (if b then fetched (foundIn name (length buffer) (decode m)) else Refused DamagedPool)
+    (if b then filled (foundIn name (length buffer) (decode m)) (doubles name (decode m)) buffer else buffer)
+written name m buffer true h = found-written name (decode m) buffer h
+written name m buffer false h = absurd (true≢false (sym h))
+
+pub fetch-writes : FetchWrites library
+unfolding asked fetchReply fetchBuffer
+fetch-writes name m buffer h = let w = written name m buffer (sound m) h in (w .told, w .holds)

@@ -1,0 +1,119 @@
+-- Small instances at which the definitions compute: an undamaged empty memory, and what the built-in table gives. Assumes nothing.
+use Prim.Native.Nat.{ℕ}
+use mathlib.Core.Path.{_≡_, refl}
+use mathlib.Core.Bool.{true, false}
+use mathlib.Core.List.{List, []}
+use lib.Dec.{eqb, lit≤}
+use lib.Ieee.{round, toBits, ofBits, add, sub, mul, div, rem, neg, lt, le, eq}
+use lib.ListN.{replicate}
+use Rattle.plain.specs.Doubles.{printed}
+use Rattle.angle.specs.Wrap.{wrapped, kept}
+use Rattle.angle.specs.Series.{closing}
+use Rattle.angle.specs.Sine.{sineCosine, ofWrapped, core}
+use Rattle.rotation.specs.Epochs.{days, centuries, inReach}
+use Rattle.rotation.specs.Elements.{nutated}
+use Rattle.rotation.specs.Matrix.{oriented}
+use Rattle.rotation.specs.Evaluation.{evaluated}
+use Rattle.rotation.specs.Codes.{systemOf}
+use Rattle.rotation.specs.Table.{straight, minus, missing, rowOf, sizeOf}
+use Rattle.rotation.specs.Builtin.{rowEvaluated}
+use Rattle.rotation.specs.declared.elements.Elements.{Elements}
+use Rattle.rotation.specs.declared.matrix.Orientation.{Orientation}
+use Rattle.rotation.specs.declared.table.Axes.{Axes}
+use Rattle.rotation.specs.declared.table.Size.the-variants.{Known}
+use Rattle.text.specs.Lines.{lines}
+use Rattle.text.specs.Text.{readFrom, readText}
+use Rattle.words.specs.Halves.{sum, distinct, all}
+use Rattle.layout.specs.State.{program, flat}
+use Rattle.layout.specs.Limits.{WORDS, room}
+use Rattle.layout.specs.Memory.{decode, cutTexts, cutStatements}
+use Rattle.layout.specs.Damage.{sound, allNamed}
+use Rattle.pool.specs.Load.{held, textOf}
+use Rattle.promises.specs.Marked.{nought, bits}
+use Rattle.promises.specs.Demands.{Admissible, HasRow}
+
+-- ---- a memory of noughts is an empty pool, which can take the empty text
+
+unfoldable pub noughts : List ℕ
+noughts = replicate WORDS 0
+
+pub noughts-sound : sound noughts ≡ true
+unfolding noughts sound sum distinct all allNamed
+noughts-sound = refl
+
+pub noughts-empty : decode noughts ≡ []
+unfolding noughts decode cutTexts cutStatements
+noughts-empty = refl
+
+pub empty-text : Admissible 1 [] noughts
+unfolding held textOf readText readFrom lines room program flat
+empty-text = record {
+  undamaged = noughts-sound;
+  free = rw noughts-empty;
+  short = lit≤ tt;
+  events = [];
+  admitted = refl;
+  roomy = rw noughts-empty;
+}
+
+-- ---- Earth and Sun at 0
+
+earth : Elements
+earth = record {
+  ra = straight (printed 0 0) (minus 641 3);
+  dec = straight (printed 90 0) (minus 557 3);
+  pm = straight (printed 190147 3) (printed 3609856235 7);
+}
+
+sun : Elements
+sun = record { ra = straight (printed 28613 2) missing; dec = straight (printed 6387 2) missing; pm = straight (printed 8410 2) (printed 141844 4) }
+
+pub earthAt0 : Orientation
+earthAt0 = rowEvaluated 399 earth nought
+
+pub sunAt0 : Orientation
+sunAt0 = rowEvaluated 10 sun nought
+
+at-0 : inReach nought ≡ true
+unfolding inReach printed round neg le lt eq
+at-0 = refl
+
+pub earth-given : HasRow 399 nought earthAt0
+unfolding systemOf rowOf earth earthAt0
+earth-given = record { reach = at-0; system = 3; legal = refl; row = earth; listed = refl; evaluation = refl }
+
+pub sun-given : HasRow 10 nought sunAt0
+unfolding systemOf rowOf sun sunAt0
+sun-given = record { reach = at-0; system = 10; legal = refl; row = sun; listed = refl; evaluation = refl }
+
+pub earth-ra : eqb (bits (earthAt0 .ra)) 0 ≡ true
+unfolding earthAt0 earth printed round toBits ofBits add sub mul div rem neg lt le eq wrapped kept closing core ofWrapped sineCosine days centuries nutated oriented evaluated rowEvaluated
+earth-ra = refl
+
+pub sun-ra : eqb (bits (sunAt0 .ra)) 0 ≡ false
+unfolding sunAt0 sun printed round toBits ofBits add sub mul div rem neg lt le eq wrapped kept closing core ofWrapped sineCosine days centuries nutated oriented evaluated rowEvaluated
+sun-ra = refl
+
+-- ---- Mercury's and Pluto's radii
+
+pub mercury : Axes
+mercury = record { a = printed 24397 1; b = printed 24397 1; c = printed 24397 1 }
+
+pub pluto : Axes
+pluto = record { a = printed 1195 0; b = printed 1195 0; c = printed 1195 0 }
+
+pub mercury-given : sizeOf 199 ≡ Known mercury
+unfolding sizeOf mercury
+mercury-given = refl
+
+pub pluto-given : sizeOf 999 ≡ Known pluto
+unfolding sizeOf pluto
+pluto-given = refl
+
+pub mercury-a : eqb (bits (mercury .a)) (bits (printed 1195 0)) ≡ false
+unfolding mercury printed round toBits
+mercury-a = refl
+
+pub pluto-a : eqb (bits (pluto .a)) (bits (printed 1195 0)) ≡ true
+unfolding pluto printed round toBits
+pluto-a = refl

@@ -1,0 +1,74 @@
+-- A refusal changes nothing: every call writes only under its success. Assumes nothing.
+use Prim.Native.Nat.{ℕ}
+use mathlib.Core.Path.{_≡_, refl}
+use mathlib.Core.Bool.{Bool, true, false, true≢false}
+use mathlib.Core.List.{List, []}
+use lib.Dec.{eqb}
+use lib.Ieee.{Float}
+use lib.ListN.{length}
+use Rattle.plain.specs.Choice.{if_then_else_}
+use Rattle.refusal.specs.Numbers.{SUCCESS, numberOf}
+use Rattle.refusal.specs.declared.Refusal.{Refusal}
+use Rattle.refusal.specs.declared.Refusal.the-variants as Q
+use Rattle.layout.specs.Memory.{decode, put}
+use Rattle.layout.specs.Damage.{sound}
+use Rattle.pool.specs.Replies.{replyNumber, fetchedNumber, done}
+use Rattle.pool.specs.Empty.{emptyReply, clearReply}
+use Rattle.pool.specs.Load.{textOf, with, loadReply, loadMemory}
+use Rattle.pool.specs.Remove.{without, removeReply, removeMemory}
+use Rattle.pool.specs.Fetch.{doubles, foundIn, filled, fetched, fetchReply, fetchBuffer}
+use Rattle.pool.specs.declared.reply.Reply.{Reply}
+use Rattle.pool.specs.declared.reply.Reply.the-variants as R
+use Rattle.pool.specs.declared.reply.Fetched.the-variants as F
+use Rattle.pool.specs.declared.variable.Found.{Found}
+use Rattle.pool.specs.declared.variable.Found.the-variants as W
+use Rattle.promises.specs.Calls.{makeEmpty, load, remove, clear, fetch, totals, orientation, radii, asked, leaves, library}
+use Rattle.promises.specs.Demands.{RefusalChangesNothing}
+
+-- no refusal has the number of success
+pub refused-number : (q : Refusal) → eqb (numberOf q) SUCCESS ≡ false
+refused-number Q.LabelHeld = refl
+refused-number Q.TextTooLong = refl
+refused-number Q.LineTooLong = refl
+refused-number Q.BadByte = refl
+refused-number Q.Syntax = refl
+refused-number Q.Number = refl
+refused-number Q.NoRoom = refl
+refused-number Q.NotHeld = refl
+refused-number Q.Epoch = refl
+refused-number Q.UnknownBody = refl
+refused-number Q.Incomplete = refl
+refused-number Q.WrongCount = refl
+refused-number Q.NoVariable = refl
+refused-number Q.ShortBuffer = refl
+refused-number Q.DamagedPool = refl
+
+-- a call that changes the pool is accepted exactly when it is done
+pub accepted-done : (r : Reply) → eqb (replyNumber r) SUCCESS ≡ done r
+accepted-done R.Done = refl
+accepted-done (R.Refused q line) = refused-number q
+
+-- memory that is written only where the call is done
+unwritten : (r : Reply) (after before : List ℕ) → eqb (replyNumber r) SUCCESS ≡ false → (if done r then after else before) ≡ before
+unwritten R.Done after before e = absurd (true≢false e)
+unwritten (R.Refused q line) after before e = refl
+
+-- a buffer that is written only where the pool is undamaged and the variable is found in its room
+untouched : (b : Bool) (r : Found) (xs buffer : List Float)
+    → eqb (fetchedNumber (if b then fetched r else F.Refused Q.DamagedPool)) SUCCESS ≡ false → (if b then filled r xs buffer else buffer) ≡ buffer
+untouched true (W.Count n) xs buffer e = absurd (true≢false e)
+untouched true W.TooMany xs buffer e = refl
+untouched true W.Absent xs buffer e = refl
+untouched false r xs buffer e = refl
+
+pub refusal-changes-nothing : RefusalChangesNothing library
+unfolding asked leaves loadMemory removeMemory fetchReply fetchBuffer
+refusal-changes-nothing makeEmpty m e = (unwritten (emptyReply m) (put [] m) m e, refl)
+refusal-changes-nothing (load label bytes) m e = (unwritten (loadReply label bytes m) (put (with (decode m) (textOf label bytes)) m) m e, refl)
+refusal-changes-nothing (remove label) m e = (unwritten (removeReply label m) (put (without label (decode m)) m) m e, refl)
+refusal-changes-nothing clear m e = (unwritten (clearReply m) (put [] m) m e, refl)
+refusal-changes-nothing (fetch name buffer) m e =
+    (refl, untouched (sound m) (foundIn name (length buffer) (decode m)) (doubles name (decode m)) buffer e)
+refusal-changes-nothing totals m e = (refl, refl)
+refusal-changes-nothing (orientation source code epoch) m e = (refl, refl)
+refusal-changes-nothing (radii source code) m e = (refl, refl)

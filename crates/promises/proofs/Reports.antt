@@ -1,0 +1,121 @@
+-- Only a fault of a text has a line, and its number is 3 to 6; a refused answer has no values: each case of an answer by itself. Assumes
+-- nothing.
+use Prim.Native.Nat.{ℕ}
+use mathlib.Core.Path.{_≡_, refl, sym, _∙_}
+use mathlib.Core.Bool.{Bool, true, false, true≢false}
+use mathlib.Core.List.{List, []}
+use lib.Dec.{ltb}
+use lib.ListN.{length}
+use Rattle.plain.specs.Bytes.{within}
+use Rattle.plain.specs.Choice.{if_then_else_}
+use Rattle.refusal.specs.Numbers.{numberOf}
+use Rattle.refusal.specs.declared.Refusal.{Refusal}
+use Rattle.refusal.specs.declared.Refusal.the-variants as Q
+use Rattle.rotation.specs.declared.matrix.Oriented.the-variants as O
+use Rattle.rotation.specs.declared.table.Radii.the-variants as A
+use Rattle.text.specs.Faults.{refusalOf}
+use Rattle.text.specs.Text.{Read, fine, refused, readText}
+use Rattle.text.specs.declared.faults.Fault.{Fault}
+use Rattle.text.specs.declared.faults.Fault.the-variants as F
+use Rattle.layout.specs.Limits.{room}
+use Rattle.layout.specs.Memory.{decode}
+use Rattle.layout.specs.Damage.{sized, sound}
+use Rattle.pool.specs.Replies.{replyNumber, replyLine, refusing}
+use Rattle.pool.specs.Empty.{emptyReply, clearReply}
+use Rattle.pool.specs.Load.{LONGEST, held, textOf, with, admitted, loadAnswer, loadReply}
+use Rattle.pool.specs.Remove.{removeReply}
+use Rattle.pool.specs.declared.reply.Reply.{Reply}
+use Rattle.pool.specs.declared.reply.Reply.the-variants as R
+use Rattle.pool.specs.declared.reply.Fetched.the-variants as W
+use Rattle.pool.specs.declared.reply.Counts.the-variants as T
+use Rattle.promises.specs.Calls as C
+use Rattle.promises.specs.Calls.{Call, Answer, asked, library, number, line, count, doubles, totalled, accepted}
+use Rattle.promises.specs.Demands.{Reports}
+use Rattle.promises.proofs.Refusals.{refused-number}
+
+-- ---- lines
+
+-- a reply has a line only with a number from 3 to 6
+record Lined (r : Reply) : Type 0 where
+  others : within 3 6 (replyNumber r) ≡ false → replyLine r ≡ 0
+
+done-lined : Lined R.Done
+done-lined = record { others = λ e. refl }
+
+refusing-lined : (q : Refusal) → Lined (refusing q)
+refusing-lined q = record { others = λ e. refl }
+
+fault-number : (q : Fault) → within 3 6 (numberOf (refusalOf q)) ≡ true
+fault-number F.TooLong = refl
+fault-number F.BadByte = refl
+fault-number F.BadName = refl
+fault-number F.NoOperator = refl
+fault-number F.BadValue = refl
+fault-number F.OpenList = refl
+fault-number F.RestOfLine = refl
+fault-number F.OutsideClass = refl
+
+admitted-lined : (t : Read) (b : Bool) → Lined (admitted t b)
+admitted-lined (fine es) true = done-lined
+admitted-lined (fine es) false = refusing-lined Q.NoRoom
+admitted-lined (refused q n place) b = record { others = λ e. absurd (true≢false (sym (fault-number q) ∙ e)) }
+
+either-lined : (b : Bool) {r r′ : Reply} → Lined r → Lined r′ → Lined (if b then r else r′)
+either-lined true p q = p
+either-lined false p q = q
+
+load-lined : (label : ℕ) (bytes m : List ℕ) → Lined (loadReply label bytes m)
+unfolding loadReply loadAnswer
+load-lined label bytes m =
+    let t = admitted-lined (readText bytes) (room (with (decode m) (textOf label bytes))) in
+    either-lined (sound m)
+    (either-lined (held label (decode m)) (refusing-lined Q.LabelHeld) (either-lined (ltb LONGEST (length bytes)) (refusing-lined Q.TextTooLong) t))
+    (refusing-lined Q.DamagedPool)
+
+empty-lined : (m : List ℕ) → Lined (emptyReply m)
+unfolding emptyReply
+empty-lined m = either-lined (sized m) done-lined (refusing-lined Q.DamagedPool)
+
+clear-lined : (m : List ℕ) → Lined (clearReply m)
+unfolding clearReply
+clear-lined m = either-lined (sound m) done-lined (refusing-lined Q.DamagedPool)
+
+remove-lined : (label : ℕ) (m : List ℕ) → Lined (removeReply label m)
+unfolding removeReply
+remove-lined label m =
+    either-lined (sound m) (either-lined (held label (decode m)) done-lined (refusing-lined Q.NotHeld)) (refusing-lined Q.DamagedPool)
+
+others : (c : Call) (m : List ℕ) → within 3 6 (number (asked c m)) ≡ false → line (asked c m) ≡ 0
+unfolding asked
+others C.makeEmpty m e = empty-lined m .others e
+others (C.load label bytes) m e = load-lined label bytes m .others e
+others (C.remove label) m e = remove-lined label m .others e
+others C.clear m e = clear-lined m .others e
+others (C.fetch name buffer) m e = refl
+others C.totals m e = refl
+others (C.orientation source code epoch) m e = refl
+others (C.radii source code) m e = refl
+
+-- ---- values
+
+success : (a : Answer) → accepted a ≡ true → line a ≡ 0
+success (C.replied R.Done) e = refl
+success (C.replied (R.Refused q n)) e = absurd (true≢false (sym e ∙ refused-number q))
+success (C.fetched r buffer) e = refl
+success (C.counted r) e = refl
+success (C.oriented r) e = refl
+success (C.measured r) e = refl
+
+no-values : (a : Answer) → accepted a ≡ false → (count a ≡ 0) × (doubles a ≡ []) × (totalled a ≡ [])
+no-values (C.replied r) e = (refl, refl, refl)
+no-values (C.fetched (W.Count n) buffer) e = absurd (true≢false e)
+no-values (C.fetched (W.Refused q) buffer) e = (refl, refl, refl)
+no-values (C.counted (T.Held a b c)) e = absurd (true≢false e)
+no-values (C.counted (T.Refused q)) e = (refl, refl, refl)
+no-values (C.oriented (O.Given o)) e = absurd (true≢false e)
+no-values (C.oriented (O.Refused q)) e = (refl, refl, refl)
+no-values (C.measured (A.Given x)) e = absurd (true≢false e)
+no-values (C.measured (A.Refused q)) e = (refl, refl, refl)
+
+pub reports : Reports library
+reports = record { success = λ c m e. success (asked c m) e; others = others; noValues = λ c m e. no-values (asked c m) e }
