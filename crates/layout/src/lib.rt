@@ -4,3 +4,4 @@ pub mod check;
 pub mod legible;
 pub mod limits;
 pub mod pack;
+pub mod total;

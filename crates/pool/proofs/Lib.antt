@@ -6,3 +6,16 @@ pub mod Passing
 pub mod Gathering
 pub mod Presence
 pub mod Finding
+-- load: the second pass
+pub mod Storing
+pub mod Giving
+pub mod Pages
+pub mod Heads
+pub mod Lines
+pub mod Passes
+-- load: what it leaves
+pub mod Laid
+pub mod Labels
+pub mod Rooms
+pub mod Adding
+pub mod Loading

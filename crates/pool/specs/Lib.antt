@@ -4,6 +4,7 @@ pub mod Variables
 pub mod Walk
 pub mod Empty
 pub mod Load
+pub mod Writing
 pub mod Remove
 pub mod Fetch
 pub mod Totals

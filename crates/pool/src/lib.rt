@@ -1,7 +1,11 @@
 // The calls on a pool: document 01, "What the library holds".
 pub mod fetch;
 pub mod gather;
+pub mod give;
+pub mod load;
 pub mod name;
+pub mod pen;
 pub mod reply;
 pub mod variable;
 pub mod walk;
+pub mod write;

@@ -1,0 +1,103 @@
+-- The answer of a load, test by test: "Order: 15 first; then by call 1, 2, the first faulty line .., 7". Assumes nothing.
+use Prim.Native.Nat.{ℕ, _≤_, _<_}
+use native.Mathlib.Omega.{arith}
+use mathlib.Core.Path.{_≡_, refl, sym, ap, _∙_}
+use mathlib.Core.Bool.{Bool, true, false}
+use mathlib.Core.List.{List}
+use borrow.Author.Tests.{lt-ltb, le-ltb}
+use lib.Dec.{ltb}
+use lib.ListN.{length}
+use Rattle.refusal.specs.declared.Refusal.{Refusal}
+use Rattle.refusal.specs.declared.Refusal.the-variants.{LabelHeld, TextTooLong, NoRoom, DamagedPool}
+use Rattle.text.specs.Faults.{refusalOf}
+use Rattle.text.specs.Statements.{Event, openings, givings}
+use Rattle.text.specs.Text.{Read, fine, refused, readText, tallied}
+use Rattle.text.specs.declared.Checked.{Checked}
+use Rattle.text.specs.declared.Checked.the-variants as C
+use Rattle.text.specs.declared.faults.Fault.{Fault}
+use Rattle.layout.specs.State.{flat, valuesOf}
+use Rattle.layout.specs.Limits.{room}
+use Rattle.layout.specs.Memory.{decode, put}
+use Rattle.layout.specs.Damage.{sound}
+use Rattle.pool.specs.Replies.{refusing}
+use Rattle.pool.specs.Load.{LONGEST, held, textOf, with, admitted, loadAnswer, loadReply, loadMemory, Loads}
+use Rattle.pool.specs.Writing.{Accepts}
+use Rattle.pool.specs.declared.reply.Reply.{Reply}
+use Rattle.pool.specs.declared.reply.Reply.the-variants.{Done, Refused}
+use Rattle.pool.proofs.Adding.{body-counted, body-valued}
+
+-- ---- what the first pass tells of the text
+
+-- it is admitted, with so many statements and values
+pub record Admitted (x : Read) (n k : ℕ) : Type 0 where
+  pub events : List Event
+  pub reads : x ≡ fine events
+  pub opens : openings events ≡ n
+  pub gives : givings events ≡ k
+
+pub tallied-admitted : (x : Read) (n k : ℕ) → tallied x ≡ C.Admitted n k → Admitted x n k
+tallied-admitted (fine es) n k e = record { events = es; reads = refl; opens = cc; gives = cc }
+tallied-admitted (refused q l p) n k e = let z : _≡_ {A = ℕ} 0 1 = cc in absurd (omega arith)
+
+tallied-refused : (x : Read) (q : Fault) (l p : ℕ) → tallied x ≡ C.Refused q l p → x ≡ refused q l p
+tallied-refused (fine es) q l p e = let z : _≡_ {A = ℕ} 0 1 = cc in absurd (omega arith)
+tallied-refused (refused f i j) q l p e =
+    let a : f ≡ q = cc in
+    let b : i ≡ l = cc in
+    let c : j ≡ p = cc in
+    rw (a, b, c)
+
+-- the statements and the values of a text that is admitted with these counts
+module _ (label : ℕ) (bytes : List ℕ) (n k : ℕ) (t : tallied (readText bytes) ≡ C.Admitted n k) where
+  pub statements-told : length (textOf label bytes .body) ≡ n
+  statements-told = let a = tallied-admitted (readText bytes) n k t in body-counted label bytes (a .events) (a .reads) ∙ a .opens
+
+  pub values-told : length (flat valuesOf (textOf label bytes .body)) ≡ k
+  values-told = let a = tallied-admitted (readText bytes) n k t in body-valued label bytes (a .events) (a .reads) ∙ a .gives
+
+-- ---- the answers
+
+module _ (label : ℕ) (bytes m : List ℕ) where
+  -- a refusal leaves the memory
+  refuses : (q : Refusal) (line : ℕ) → loadReply label bytes m ≡ Refused q line → Loads label bytes m (Refused q line) m
+  unfolding loadMemory
+  refuses q line e = record { reply = sym e; memory = rw e }
+
+  pub damaged : sound m ≡ false → Loads label bytes m (refusing DamagedPool) m
+  unfolding loadReply
+  damaged e = refuses DamagedPool 0 (rw e)
+
+  module _ (e : sound m ≡ true) where
+    pub label-held : held label (decode m) ≡ true → Loads label bytes m (refusing LabelHeld) m
+    unfolding loadReply loadAnswer
+    label-held h = refuses LabelHeld 0 (rw (e, h))
+
+    module _ (h : held label (decode m) ≡ false) where
+      pub too-long : LONGEST < length bytes → Loads label bytes m (refusing TextTooLong) m
+      unfolding loadReply loadAnswer
+      too-long l = refuses TextTooLong 0 (rw (e, h, lt-ltb LONGEST (length bytes) l))
+
+      module _ (l : length bytes ≤ LONGEST) where
+        -- by the first pass and the room
+        answers : loadReply label bytes m ≡ admitted (readText bytes) (room (with (decode m) (textOf label bytes)))
+        unfolding loadReply loadAnswer
+        answers = rw (e, h, le-ltb LONGEST (length bytes) l)
+
+        pub faulty : (q : Fault) (line place : ℕ) → tallied (readText bytes) ≡ C.Refused q line place → Loads label bytes m (Refused (refusalOf q) line) m
+        faulty q line place t = refuses (refusalOf q) line (answers ∙ ap (λ (x : Read). admitted x (room (with (decode m) (textOf label bytes)))) (tallied-refused (readText bytes) q line place t))
+
+        module _ (n k : ℕ) (t : tallied (readText bytes) ≡ C.Admitted n k) (b : Bool) (r : b ≡ room (with (decode m) (textOf label bytes))) where
+          read : Admitted (readText bytes) n k
+          read = tallied-admitted (readText bytes) n k t
+
+          pub no-room : b ≡ false → Loads label bytes m (refusing NoRoom) m
+          no-room f = refuses NoRoom 0 (answers ∙ (λ i. admitted (read .reads i) ((sym r ∙ f) i)))
+
+          pub accepts : b ≡ true → Accepts label bytes n k m
+          accepts f = record { undamaged = e; events = read .events; reads = read .reads; long = l; opens = read .opens; gives = read .gives; roomy = sym r ∙ f }
+
+          pub done : b ≡ true → (after : List ℕ) → after ≡ put (with (decode m) (textOf label bytes)) m → Loads label bytes m Done after
+          unfolding loadMemory
+          done f after p =
+              let d : loadReply label bytes m ≡ Done = answers ∙ (λ i. admitted (read .reads i) ((sym r ∙ f) i)) in
+              record { reply = sym d; memory = rw d p }

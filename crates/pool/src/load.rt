@@ -1,0 +1,108 @@
+// Load: document 01, "a text is accepted exactly when its label is not held, the rules admit it and the undamaged pool has room".
+use crate::pen::pen_behind;
+use crate::reply::Reply;
+use crate::write::write_text;
+use layout::area::texts_of;
+use layout::check::is_sound;
+use layout::limits::HALF;
+use layout::limits::STATEMENT_COUNT;
+use layout::limits::STATEMENTS;
+use layout::limits::TEXT_COUNT;
+use layout::limits::TEXTS;
+use layout::limits::TEXTS_AT;
+use layout::limits::VALUE_COUNT;
+use layout::limits::VALUES;
+use layout::total::write_totals;
+use refusal::Refusal;
+use text::Checked;
+use text::check;
+use text::faults::refusal_of;
+use words::scan::place_of;
+use words::write::store;
+ghost use mathlib.Core.Path.{_≡_};
+ghost use mathlib.Core.Bool.{true};
+ghost use lib.ListN.{length};
+ghost use Rattle.layout.specs.State.{Text, flat, valuesOf};
+ghost use Rattle.layout.specs.Limits.{room};
+ghost use Rattle.layout.specs.Memory.{decode, put};
+ghost use Rattle.layout.specs.Damage.{Sized, sound};
+ghost use Rattle.pool.specs.Load.{Loads, held, with, textOf};
+ghost use Rattle.pool.specs.Writing.{Accepts};
+
+// The longest text, in bytes.
+const LONGEST: usize = 65536;
+
+// The text is put last, under its label; or it is refused, and nothing is written.
+pub fn load(pool: &mut [u64], label: u32, text: &[u8]) -> Reply
+    ensures { λ r. ⌜ Loads label (now (text .entry)) (now (pool .entry)) r (now (pool .exit)) ⌝ }
+{
+    if !is_sound(pool) {
+        return Reply::Refused(Refusal::DamagedPool, 0);
+    }
+    if is_held(pool, label) {
+        return Reply::Refused(Refusal::LabelHeld, 0);
+    }
+    if LONGEST < text.len() {
+        return Reply::Refused(Refusal::TextTooLong, 0);
+    }
+    let checked = check(text);
+    match checked {
+        Checked::Admitted(statements, values) => {
+            if !has_room(pool, statements, values) {
+                return Reply::Refused(Refusal::NoRoom, 0);
+            }
+            add(pool, label, text, statements, values);
+            Reply::Done
+        }
+        Checked::Refused(fault, line, _) => Reply::Refused(refusal_of(fault), line),
+    }
+}
+
+// A text is held under the label.
+pub fn is_held(pool: &[u64], label: u32) -> bool
+    requires { ⌜ Sized (now pool) ⌝ }
+    ensures { λ r. ⌜ r ≡ held label (decode (now (pool .entry))) ⌝ }
+{
+    let texts = texts_of(pool);
+    place_of(texts, label as u64) < texts.len()
+}
+
+// There is room for a text more, of so many statements and values.
+fn has_room(pool: &[u64], statements: usize, values: usize) -> bool
+    requires { ⌜ sound (now pool) ≡ true ⌝ }
+    ensures { λ r. ⌜ ((t : Text) → length (t .body) ≡ statements → length (flat valuesOf (t .body)) ≡ values → r ≡ room (with (decode (now (pool .entry))) t)) ⌝ }
+{
+    if TEXTS <= pool[TEXT_COUNT] {
+        return false;
+    }
+    if STATEMENTS - pool[STATEMENT_COUNT] < (statements as u64) {
+        return false;
+    }
+    if VALUES - pool[VALUE_COUNT] < (values as u64) {
+        return false;
+    }
+    true
+}
+
+// An accepted text of so many statements and values is written behind what is held, and the totals last.
+fn add(pool: &mut [u64], label: u32, text: &[u8], statements: usize, values: usize)
+    requires { ⌜ Accepts label (now text) statements values (now pool) ⌝ }
+    ensures { λ _. ⌜ now (pool .exit) ≡ put (with (decode (now (pool .entry))) (textOf label (now (text .entry)))) (now (pool .entry)) ⌝ }
+{
+    let texts = pool[TEXT_COUNT];
+    let opened = pool[STATEMENT_COUNT];
+    let given = pool[VALUE_COUNT];
+    let pen = pen_behind(opened as usize, given as usize);
+    store(
+        pool,
+        TEXTS_AT + (texts as usize),
+        (label as u64) * HALF + (statements as u64),
+    );
+    write_text(pool, pen, text);
+    write_totals(
+        pool,
+        texts + 1,
+        opened + (statements as u64),
+        given + (values as u64),
+    );
+}
