@@ -16,6 +16,7 @@ use Rattle.layout.specs.Memory.{decode}
 use Rattle.layout.specs.Damage.{sound}
 use Rattle.pool.specs.Replies.{done, refusing}
 use Rattle.pool.specs.Load.{LONGEST, held, textOf, with, admitted, loadAnswer, loadReply}
+use Rattle.pool.specs.declared.reply.Reply.{Reply}
 use Rattle.pool.specs.declared.reply.Reply.the-variants.{Done}
 use Rattle.promises.specs.Calls.{load, asked, library, accepted}
 use Rattle.promises.specs.Demands.{Admissible}
@@ -36,16 +37,17 @@ module _ (label : ℕ) (bytes : List ℕ) (s : Pool) where
   by-room (fine es) false e = absurd (true≢false (sym e))
   by-room (refused q line place) b e = absurd (true≢false (sym e))
 
-  by-length : (b : Bool) → ltb LONGEST (length bytes) ≡ b → held label s ≡ false
-      → done (if b then refusing TextTooLong else admitted (readText bytes) (room (with s (textOf label bytes)))) ≡ true → Taken label bytes s
+  -- the load's answer from the test of the length on
+  abbrev measured : Bool → Reply
+  measured b = if b then refusing TextTooLong else admitted (readText bytes) (room (with s (textOf label bytes)))
+
+  by-length : (b : Bool) → ltb LONGEST (length bytes) ≡ b → held label s ≡ false → done (measured b) ≡ true → Taken label bytes s
   by-length true e f h = absurd (true≢false (sym h))
   by-length false e f h =
       let p = by-room (readText bytes) (room (with s (textOf label bytes))) h in
       record { free = f; short = ltb-false LONGEST (length bytes) e; fits = p .0; reads = p .1 }
 
-  by-label : (b : Bool) → held label s ≡ b
-      → done (if b then refusing LabelHeld else (if ltb LONGEST (length bytes) then refusing TextTooLong else admitted (readText bytes) (room (with s (textOf label bytes))))) ≡ true
-      → Taken label bytes s
+  by-label : (b : Bool) → held label s ≡ b → done (if b then refusing LabelHeld else measured (ltb LONGEST (length bytes))) ≡ true → Taken label bytes s
   by-label true f h = absurd (true≢false (sym h))
   by-label false f h = by-length (ltb LONGEST (length bytes)) refl f h
 

@@ -39,31 +39,41 @@ record Written (xs buffer : List Float) (r : Fetched) (after : List Float) : Typ
   holds : after ≡ xs ++ drop (length xs) buffer
 
 module _ (name : List ℕ) (s : Pool) (buffer : List Float) where
-  by-room : (b : Bool) → leb (length (variable name s)) (length buffer) ≡ b
-      → eqb (fetchedNumber (fetched (if b then W.Count (length (variable name s)) else W.TooMany))) SUCCESS ≡ true
-      → Written (doubles name s) buffer (fetched (if b then W.Count (length (variable name s)) else W.TooMany)) (filled (if b then W.Count (length (variable name s)) else W.TooMany) (doubles name s) buffer)
+  -- what is found, if the call is done, is written
+  abbrev WrittenBy : Found → Type 0
+  WrittenBy f =
+      eqb (fetchedNumber (fetched f)) SUCCESS ≡ true → Written (doubles name s) buffer (fetched f) (filled f (doubles name s) buffer)
+
+  -- a variable that is there, with room for it or not
+  abbrev fitting : Bool → Found
+  fitting b = if b then W.Count (length (variable name s)) else W.TooMany
+
+  by-room : (b : Bool) → leb (length (variable name s)) (length buffer) ≡ b → WrittenBy (fitting b)
   by-room true e h =
       let l : length (doubles name s) ≡ length (variable name s) = length-map (variable name s) (ofBits binary64) in
-      record { told = sym l; holds = over-start (doubles name s) buffer (subst (λ (n : ℕ). n ≤ length buffer) (sym l) (leb-true (length (variable name s)) (length buffer) e)) }
+      let r : length (doubles name s) ≤ length buffer =
+      subst (λ (n : ℕ). n ≤ length buffer) (sym l) (leb-true (length (variable name s)) (length buffer) e) in
+      record { told = sym l; holds = over-start (doubles name s) buffer r }
   by-room false e h = absurd (true≢false (sym h))
 
-  found-written : eqb (fetchedNumber (fetched (foundIn name (length buffer) s))) SUCCESS ≡ true
-      → Written (doubles name s) buffer (fetched (foundIn name (length buffer) s)) (filled (foundIn name (length buffer) s) (doubles name s) buffer)
+  by-presence : (b : Bool) → WrittenBy (if b then fitting (leb (length (variable name s)) (length buffer)) else W.Absent)
+  by-presence true h = by-room (leb (length (variable name s)) (length buffer)) refl h
+  by-presence false h = absurd (true≢false (sym h))
+
+  found-written : WrittenBy (foundIn name (length buffer) s)
   unfolding foundIn
-  found-written h = by (present name s) h
-    where
-      found : Bool → Found
-      found b = if b then (if leb (length (variable name s)) (length buffer) then W.Count (length (variable name s)) else W.TooMany) else W.Absent
+  found-written h = by-presence (present name s) h
 
-      by : (b : Bool) → eqb (fetchedNumber (fetched (found b))) SUCCESS ≡ true → Written (doubles name s) buffer (fetched (found b)) (filled (found b) (doubles name s) buffer)
-      by true h = by-room (leb (length (variable name s)) (length buffer)) refl h
-      by false h = absurd (true≢false (sym h))
+module _ (name m : List ℕ) (buffer : List Float) where
+  abbrev reply : Bool → Fetched
+  reply b = if b then fetched (foundIn name (length buffer) (decode m)) else Refused DamagedPool
 
-written : (name m : List ℕ) (buffer : List Float) (b : Bool) → eqb (fetchedNumber (if b then fetched (foundIn name (length buffer) (decode m)) else Refused DamagedPool)) SUCCESS ≡ true
-    → Written (doubles name (decode m)) buffer (if b then fetched (foundIn name (length buffer) (decode m)) else Refused DamagedPool)
-    (if b then filled (foundIn name (length buffer) (decode m)) (doubles name (decode m)) buffer else buffer)
-written name m buffer true h = found-written name (decode m) buffer h
-written name m buffer false h = absurd (true≢false (sym h))
+  abbrev left : Bool → List Float
+  left b = if b then filled (foundIn name (length buffer) (decode m)) (doubles name (decode m)) buffer else buffer
+
+  written : (b : Bool) → eqb (fetchedNumber (reply b)) SUCCESS ≡ true → Written (doubles name (decode m)) buffer (reply b) (left b)
+  written true h = found-written name (decode m) buffer h
+  written false h = absurd (true≢false (sym h))
 
 pub fetch-writes : FetchWrites library
 unfolding asked fetchReply fetchBuffer

@@ -46,7 +46,8 @@ step-keeps (C.load label bytes) ks = rw (accepted-done (loadAnswer label bytes (
     by false = refl
 step-keeps (C.remove label) ks = by (held label (map text ks))
   where
-    by : (b : Bool) → (if b then without label (map text ks) else map text ks) ≡ map text (if accepted (C.replied (if b then Done else refusing NotHeld)) then removing label ks else ks)
+    by : (b : Bool) → (if b then without label (map text ks) else map text ks)
+        ≡ map text (if accepted (C.replied (if b then Done else refusing NotHeld)) then removing label ks else ks)
     by true = sym (map-removing label ks)
     by false = refl
 step-keeps C.clear ks = refl
@@ -103,13 +104,15 @@ holds-after (c ∷ cs) m ks h = holds-after cs (leaves c m) (if accepted (asked 
 
 -- ---- loading texts that can be held together
 
-load-accepted : (m : List ℕ) (before : List Loaded) (k : Loaded) (more : List Loaded) → Holds m before → Together (before ++ (k ∷ more)) → accepted (asked (loading k) m) ≡ true
+load-accepted : (m : List ℕ) (before : List Loaded) (k : Loaded) (more : List Loaded) → Holds m before → Together (before ++ (k ∷ more))
+    → accepted (asked (loading k) m) ≡ true
 unfolding says
 load-accepted m before k more h g =
     let a : asked (loading k) m ≡ says (loading k) (map text before) = asked-says (loading k) m (h .is .undamaged) ∙ ap (says (loading k)) (h .is .state) in
     rw (a, done-taken (k .label) (k .bytes) (map text before) (together-taken before k more g))
 
-next-holds : (m : List ℕ) (before : List Loaded) (k : Loaded) (more : List Loaded) → Holds m before → Together (before ++ (k ∷ more)) → Holds (leaves (loading k) m) (before ++ (k ∷ []))
+next-holds : (m : List ℕ) (before : List Loaded) (k : Loaded) (more : List Loaded) → Holds m before → Together (before ++ (k ∷ more))
+    → Holds (leaves (loading k) m) (before ++ (k ∷ []))
 next-holds m before k more h g =
     subst (λ (b : Bool). Holds (leaves (loading k) m) (if b then before ++ (k ∷ []) else before)) (load-accepted m before k more h g) (holds-leaves (loading k) m before h)
 

@@ -4,16 +4,9 @@ use mathlib.Core.Path.{_≡_, refl}
 use mathlib.Core.Bool.{true, false}
 use mathlib.Core.List.{List, []}
 use lib.Dec.{eqb, lit≤}
-use lib.Ieee.{round, toBits, ofBits, add, sub, mul, div, rem, neg, lt, le, eq}
 use lib.ListN.{replicate}
 use Rattle.plain.specs.Doubles.{printed}
-use Rattle.angle.specs.Wrap.{wrapped, kept}
-use Rattle.angle.specs.Series.{closing}
-use Rattle.angle.specs.Sine.{sineCosine, ofWrapped, core}
-use Rattle.rotation.specs.Epochs.{days, centuries, inReach}
-use Rattle.rotation.specs.Elements.{nutated}
-use Rattle.rotation.specs.Matrix.{oriented}
-use Rattle.rotation.specs.Evaluation.{evaluated}
+use Rattle.rotation.specs.Epochs.{inReach}
 use Rattle.rotation.specs.Codes.{systemOf}
 use Rattle.rotation.specs.Table.{straight, minus, missing, rowOf, sizeOf}
 use Rattle.rotation.specs.Builtin.{rowEvaluated}
@@ -21,16 +14,13 @@ use Rattle.rotation.specs.declared.elements.Elements.{Elements}
 use Rattle.rotation.specs.declared.matrix.Orientation.{Orientation}
 use Rattle.rotation.specs.declared.table.Axes.{Axes}
 use Rattle.rotation.specs.declared.table.Size.the-variants.{Known}
-use Rattle.text.specs.Lines.{lines}
-use Rattle.text.specs.Text.{readFrom, readText}
 use Rattle.words.specs.Halves.{sum, distinct, all}
-use Rattle.layout.specs.State.{program, flat}
-use Rattle.layout.specs.Limits.{WORDS, room}
+use Rattle.layout.specs.Limits.{WORDS}
 use Rattle.layout.specs.Memory.{decode, cutTexts, cutStatements}
 use Rattle.layout.specs.Damage.{sound, allNamed}
-use Rattle.pool.specs.Load.{held, textOf}
 use Rattle.promises.specs.Marked.{nought, bits}
 use Rattle.promises.specs.Demands.{Admissible, HasRow}
+use Rattle.promises.proofs.Computing.{computing, loading, evaluating}
 
 -- ---- a memory of noughts is an empty pool, which can take the empty text
 
@@ -46,7 +36,7 @@ unfolding noughts decode cutTexts cutStatements
 noughts-empty = refl
 
 pub empty-text : Admissible 1 [] noughts
-unfolding held textOf readText readFrom lines room program flat
+unfolding loading
 empty-text = record {
   undamaged = noughts-sound;
   free = rw noughts-empty;
@@ -75,7 +65,7 @@ pub sunAt0 : Orientation
 sunAt0 = rowEvaluated 10 sun nought
 
 at-0 : inReach nought ≡ true
-unfolding inReach printed round neg le lt eq
+unfolding evaluating
 at-0 = refl
 
 pub earth-given : HasRow 399 nought earthAt0
@@ -87,11 +77,11 @@ unfolding systemOf rowOf sun sunAt0
 sun-given = record { reach = at-0; system = 10; legal = refl; row = sun; listed = refl; evaluation = refl }
 
 pub earth-ra : eqb (bits (earthAt0 .ra)) 0 ≡ true
-unfolding earthAt0 earth printed round toBits ofBits add sub mul div rem neg lt le eq wrapped kept closing core ofWrapped sineCosine days centuries nutated oriented evaluated rowEvaluated
+unfolding earthAt0 earth evaluating
 earth-ra = refl
 
 pub sun-ra : eqb (bits (sunAt0 .ra)) 0 ≡ false
-unfolding sunAt0 sun printed round toBits ofBits add sub mul div rem neg lt le eq wrapped kept closing core ofWrapped sineCosine days centuries nutated oriented evaluated rowEvaluated
+unfolding sunAt0 sun evaluating
 sun-ra = refl
 
 -- ---- Mercury's and Pluto's radii
@@ -111,9 +101,9 @@ unfolding sizeOf pluto
 pluto-given = refl
 
 pub mercury-a : eqb (bits (mercury .a)) (bits (printed 1195 0)) ≡ false
-unfolding mercury printed round toBits
+unfolding mercury computing
 mercury-a = refl
 
 pub pluto-a : eqb (bits (pluto .a)) (bits (printed 1195 0)) ≡ true
-unfolding pluto printed round toBits
+unfolding pluto computing
 pluto-a = refl

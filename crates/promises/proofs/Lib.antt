@@ -13,12 +13,12 @@ pub mod Together
 pub mod Said
 pub mod Held
 pub mod Overflow
-pub mod Small
 pub mod Proper
 pub mod Fair
 pub mod Steps
 pub mod Histories
 pub mod Sentence
+pub mod Computing
 pub mod Marked
 pub mod Instances
 pub mod Useless

@@ -3,7 +3,7 @@ use Prim.Native.Nat.{ℕ, zero, suc, _*_, _%_, _≤_, max}
 use native.Mathlib.Omega.{arith}
 use mathlib.Core.Path.{_≡_, refl, sym, ap, subst}
 use mathlib.Core.Bool.{Bool, true, false, _&&_, _||_}
-use mathlib.Core.List.{List, [], _∷_, _++_, map}
+use mathlib.Core.List.{List, [], _∷_, map}
 use borrow.Author.Tests.{leb-true}
 use lib.Dec.{eqb, leb, lit<}
 use lib.Ieee.{Float, nan, binary64, round, ofBits}
@@ -28,6 +28,7 @@ use Rattle.layout.proofs.Legal.{Fair}
 use Rattle.layout.proofs.Holds.{decode-legal}
 use Rattle.pool.specs.Variables.{has, assigns, any, since, gives, variable, present}
 use Rattle.pool.specs.Fetch.{doubles}
+use Rattle.pool.proofs.Presence.{absent-empty}
 use Rattle.globe.specs.Names.{nameOf}
 use Rattle.globe.specs.Elements.{there, list, ANGLES, polynomial, fewValues, nutating, enoughAngles, wellCounted}
 use Rattle.globe.specs.Orientation.{orientationReply}
@@ -73,33 +74,8 @@ module _ (name : List ℕ) where
       each-map (Under 200) (ofBits binary64) (variable name s)
       (each-weaken SmallBits (λ w. Under 200 (ofBits binary64 w)) (λ w e. record { is = small-below w e }) (variable name s) g)
 
-  -- no statement has the name: no values
-  given-none : (ss : List Statement) → any (has name) ss ≡ false → flat (gives name) ss ≡ []
-  unfolding any flat
-  given-none [] e = refl
-  given-none (s ∷ ss) e = by (has name s) e (given-none ss)
-    where
-      by : (b : Bool) → (if b then true else any (has name) ss) ≡ false → (any (has name) ss ≡ false → flat (gives name) ss ≡ [])
-          → (if b then s .values else []) ++ flat (gives name) ss ≡ []
-      by true e f = true-false e
-      by false e f = f e
-
-  since-none : (ss : List Statement) → any (has name) ss ≡ false → any (has name) (since name ss) ≡ false
-  unfolding any since
-  since-none [] e = refl
-  since-none (s ∷ ss) e = by (any (assigns name) ss) (since-none ss (later (has name s) e))
-    where
-      later : (b : Bool) → (if b then true else any (has name) ss) ≡ false → any (has name) ss ≡ false
-      later true e = true-false e
-      later false e = e
-
-      by : (b : Bool) → any (has name) (since name ss) ≡ false → any (has name) (if b then since name ss else (s ∷ ss)) ≡ false
-      by true g = g
-      by false g = e
-
-  absent-none : (s : Pool) → present name s ≡ false → doubles name s ≡ []
-  unfolding present variable
-  absent-none s e = ap (map (ofBits binary64)) (given-none (since name (program s)) (since-none (program s) e))
+absent-none : (name : List ℕ) (s : Pool) → present name s ≡ false → doubles name s ≡ []
+absent-none name s e = ap (map (ofBits binary64)) (absent-empty name s e)
 
 -- ---- a body's polynomials and coefficients
 

@@ -1,7 +1,8 @@
 -- Only a fault of a text has a line, and its number is 3 to 6; a refused answer has no values: each case of an answer by itself. Assumes
 -- nothing.
 use Prim.Native.Nat.{ℕ}
-use mathlib.Core.Path.{_≡_, refl, sym, _∙_}
+use native.Mathlib.Omega.{arith}
+use mathlib.Core.Path.{_≡_, refl, sym, ap, _∙_}
 use mathlib.Core.Bool.{Bool, true, false, true≢false}
 use mathlib.Core.List.{List, []}
 use lib.Dec.{ltb}
@@ -17,6 +18,7 @@ use Rattle.text.specs.Faults.{refusalOf}
 use Rattle.text.specs.Text.{Read, fine, refused, readText}
 use Rattle.text.specs.declared.faults.Fault.{Fault}
 use Rattle.text.specs.declared.faults.Fault.the-variants as F
+use Rattle.text.proofs.FirstFault.{number-within}
 use Rattle.layout.specs.Limits.{room}
 use Rattle.layout.specs.Memory.{decode}
 use Rattle.layout.specs.Damage.{sized, sound}
@@ -30,7 +32,7 @@ use Rattle.pool.specs.declared.reply.Fetched.the-variants as W
 use Rattle.pool.specs.declared.reply.Counts.the-variants as T
 use Rattle.promises.specs.Calls as C
 use Rattle.promises.specs.Calls.{Call, Answer, asked, library, number, line, count, doubles, totalled, accepted}
-use Rattle.promises.specs.Demands.{Reports}
+use Rattle.promises.specs.Demands.{Faulty, Reports}
 use Rattle.promises.proofs.Refusals.{refused-number}
 
 -- ---- lines
@@ -96,6 +98,48 @@ others C.totals m e = refl
 others (C.orientation source code epoch) m e = refl
 others (C.radii source code) m e = refl
 
+-- ---- faults
+
+module _ (label : ℕ) (bytes m : List ℕ) (q : Refusal) (n : ℕ) (w : within 3 6 (numberOf q) ≡ true) where
+  -- a refusal of another number
+  other : (q′ : Refusal) → within 3 6 (numberOf q′) ≡ false → refusing q′ ≡ R.Refused q n → Faulty bytes q n
+  other q′ f e = let z : q′ ≡ q = cc in absurd (true≢false (sym w ∙ ap (λ (x : Refusal). within 3 6 (numberOf x)) (sym z) ∙ f))
+
+  by-reading : (r : Read) → readText bytes ≡ r → (b : Bool) → admitted r b ≡ R.Refused q n → Faulty bytes q n
+  by-reading (fine es) h true e = let z : _≡_ {A = ℕ} 0 1 = cc in absurd (omega arith)
+  by-reading (fine es) h false e = other Q.NoRoom refl e
+  by-reading (refused fault line place) h b e =
+      let x : refusalOf fault ≡ q = cc in
+      let y : line ≡ n = cc in
+      let z : readText bytes ≡ refused fault n place = h ∙ ap (λ (k : ℕ). refused fault k place) y in
+      let k = number-within bytes fault n place z in
+      record { fault = fault; place = place; refusal = sym x; read = z; from = k .0; to = k .1 }
+
+  -- the load's answer from the test of the length on
+  abbrev measured : Bool → Reply
+  measured b = if b then refusing Q.TextTooLong else admitted (readText bytes) (room (with (decode m) (textOf label bytes)))
+
+  by-length : (b : Bool) → measured b ≡ R.Refused q n → Faulty bytes q n
+  by-length true e = other Q.TextTooLong refl e
+  by-length false e = by-reading (readText bytes) refl (room (with (decode m) (textOf label bytes))) e
+
+  by-label : (b : Bool) → (if b then refusing Q.LabelHeld else measured (ltb LONGEST (length bytes))) ≡ R.Refused q n → Faulty bytes q n
+  by-label true e = other Q.LabelHeld refl e
+  by-label false e = by-length (ltb LONGEST (length bytes)) e
+
+  by-damage : (b : Bool) → (if b then loadAnswer label bytes (decode m) else refusing Q.DamagedPool) ≡ R.Refused q n → Faulty bytes q n
+  unfolding loadAnswer
+  by-damage true e = by-label (held label (decode m)) e
+  by-damage false e = other Q.DamagedPool refl e
+
+faults : (label : ℕ) (bytes m : List ℕ) (q : Refusal) (n : ℕ) → asked (C.load label bytes) m ≡ C.replied (R.Refused q n)
+    → within 3 6 (numberOf q) ≡ true → Faulty bytes q n
+unfolding asked loadReply
+faults label bytes m q n e w = by-damage label bytes m q n w (sound m) (same e)
+  where
+    same : {r : Reply} → C.replied r ≡ C.replied (R.Refused q n) → r ≡ R.Refused q n
+    same e = cc
+
 -- ---- values
 
 success : (a : Answer) → accepted a ≡ true → line a ≡ 0
@@ -118,4 +162,4 @@ no-values (C.measured (A.Given x)) e = absurd (true≢false e)
 no-values (C.measured (A.Refused q)) e = (refl, refl, refl)
 
 pub reports : Reports library
-reports = record { success = λ c m e. success (asked c m) e; others = others; noValues = λ c m e. no-values (asked c m) e }
+reports = record { success = λ c m e. success (asked c m) e; others = others; faults = faults; noValues = λ c m e. no-values (asked c m) e }

@@ -10,6 +10,7 @@ use Rattle.text.specs.Statements.{Statement}
 use Rattle.words.proofs.Tests.{true-false}
 use Rattle.layout.specs.State.{program, flat}
 use Rattle.pool.specs.Variables.{isDirect, has, assigns, any, since, gives, variable}
+use Rattle.pool.proofs.Since.{since-all}
 use Rattle.promises.specs.Sentence.{given, LastDirect, NoDirect, Sentence, onto, forward, Forward}
 
 -- a statement with the name or without it, direct or appending, before a direct assignment or before none
@@ -68,16 +69,6 @@ module _ (name : List ℕ) where
 
   -- ---- statement by statement
 
-  -- without a direct assignment all of them count
-  since-all : (ss : List Statement) → any (assigns name) ss ≡ false → since name ss ≡ ss
-  unfolding since any
-  since-all [] e = refl
-  since-all (s ∷ ss) e = rw (later (assigns name s) (any (assigns name) ss) e)
-    where
-      later : (a b : Bool) → (if a then true else b) ≡ false → b ≡ false
-      later true b e = true-false e
-      later false b e = e
-
   -- with one statement more in front
   since-cons : (s : Statement) (ss : List Statement) (b : Bool) → any (assigns name) ss ≡ b
       → given name (since name (s ∷ ss)) ≡ (if b then given name (since name ss) else (gives name s ++ given name ss))
@@ -100,7 +91,7 @@ module _ (name : List ℕ) where
     where
       by : (b : Bool) → any (assigns name) ss ≡ b → given name (since name ss) ≡ (if any (assigns name) ss then given name (since name ss) else given name ss)
       by true e = rw e
-      by false e = rw (e, since-all ss e)
+      by false e = rw (e, since-all name ss e)
 
 pub sentence : Sentence
 unfolding variable

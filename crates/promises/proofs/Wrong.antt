@@ -4,30 +4,23 @@ use native.Mathlib.Omega.{arith}
 use mathlib.Core.Path.{_≡_, sym, ap, _∙_}
 use mathlib.Core.Bool.{true≢false}
 use mathlib.Core.List.{List, [], _∷_}
-use lib.Ieee.{Float, nan, isNan, round, neg, le, lt, eq}
+use lib.Ieee.{Float, nan, isNan}
 use lib.ListN.{getD, replicate}
-use Rattle.plain.specs.Doubles.{printed}
 use Rattle.refusal.specs.declared.Refusal.the-variants as Q
-use Rattle.rotation.specs.Epochs.{inReach}
-use Rattle.rotation.specs.Codes.{systemOf}
-use Rattle.rotation.specs.Table.{rowOf, sizeOf}
-use Rattle.rotation.specs.Builtin.{builtinOrientation, builtinRadii}
+use Rattle.rotation.specs.Table.{sizeOf}
+use Rattle.rotation.specs.Builtin.{builtinRadii}
 use Rattle.rotation.specs.declared.matrix.Orientation.{Orientation}
 use Rattle.rotation.specs.declared.matrix.Oriented.the-variants as O
 use Rattle.rotation.specs.declared.table.Axes.{Axes}
 use Rattle.rotation.specs.declared.table.Radii.the-variants as A
-use Rattle.text.specs.Lines.{lines}
-use Rattle.text.specs.Text.{readFrom, readText}
 use Rattle.words.specs.Over.{over}
 use Rattle.words.specs.Halves.{sum, distinct, all}
 use Rattle.layout.specs.State.{program, flat}
-use Rattle.layout.specs.Limits.{room}
 use Rattle.layout.specs.Memory.{decode, cutTexts, cutStatements, put}
 use Rattle.layout.specs.Damage.{sound, allNamed}
 use Rattle.pool.specs.Replies.{refusing, replyNumber}
-use Rattle.pool.specs.Variables.{any, present}
 use Rattle.pool.specs.Empty.{Empties, Clears, emptyReply, clearReply}
-use Rattle.pool.specs.Load.{Loads, held, textOf, loadAnswer, loadReply, loadMemory}
+use Rattle.pool.specs.Load.{Loads, loadReply, loadMemory}
 use Rattle.pool.specs.Remove.{Removes, removeReply}
 use Rattle.pool.specs.Fetch.{Fetches, foundIn, fetchReply, fetchBuffer}
 use Rattle.pool.specs.Totals.{Totals, totalsReply}
@@ -40,6 +33,7 @@ use Rattle.globe.specs.Radii.{Measures, radiiReply}
 use Rattle.globe.specs.declared.source.Source.the-variants as S
 use Rattle.promises.specs.Ascii.{ascii}
 use Rattle.promises.specs.Marked.{nought}
+use Rattle.promises.proofs.Computing.{loading, evaluating}
 use Rattle.promises.proofs.Instances.{noughts, noughts-sound, noughts-empty}
 
 never : _≡_ {A = ℕ} 0 1 → ⊥
@@ -66,20 +60,20 @@ empty-unwritten c = never (sym (ap first (c .memory)))
 -- ---- load: an empty pool has room for the empty text; the text is stored
 
 pub load-refused : (after : List ℕ) → Loads 1 [] noughts (refusing Q.NoRoom) after → ⊥
-unfolding loadReply loadAnswer held textOf readText readFrom lines room program flat
+unfolding loadReply loading
 load-refused after c = never (number-of (c .reply ∙ rw (noughts-sound, noughts-empty)))
   where
     number-of : refusing Q.NoRoom ≡ Done → _≡_ {A = ℕ} 0 1
     number-of e = cc
 
 pub load-unwritten : Loads 1 [] noughts Done noughts → ⊥
-unfolding loadMemory loadReply loadAnswer held textOf readText readFrom lines room program flat noughts put over sound sum distinct all allNamed decode cutTexts cutStatements
+unfolding loadMemory loadReply loading noughts put over sound sum distinct all allNamed decode cutTexts cutStatements
 load-unwritten c = never (ap first (c .memory))
 
 -- ---- remove: a label that is not held is refused; a damaged pool is refused before that
 
 pub remove-granted : (after : List ℕ) → Removes 7 noughts Done after → ⊥
-unfolding removeReply held
+unfolding removeReply loading
 remove-granted after c = never (number-of (c .reply ∙ rw (noughts-sound, noughts-empty)))
   where
     number-of : Done ≡ refusing Q.NotHeld → _≡_ {A = ℕ} 0 1
@@ -105,14 +99,14 @@ clear-granted after c = never cc
 -- ---- fetch: a variable that is not there is refused, and has no values; a refusal leaves the buffer
 
 pub fetch-granted : (n : ℕ) (buffer after : List Float) → Fetches (ascii "X") noughts buffer (F.Count n) after → ⊥
-unfolding fetchReply foundIn present any program
+unfolding fetchReply foundIn loading
 fetch-granted n buffer after c = never (number-of (c .reply ∙ rw (noughts-sound, noughts-empty)))
   where
     number-of : F.Count n ≡ F.Refused Q.NoVariable → _≡_ {A = ℕ} 0 1
     number-of e = cc
 
 pub fetch-written : (r : Fetched) → Fetches (ascii "X") noughts (nan ∷ []) r (nought ∷ []) → ⊥
-unfolding fetchBuffer foundIn present any program printed round isNan
+unfolding fetchBuffer foundIn loading isNan
 fetch-written r c =
     let e : fetchBuffer (ascii "X") noughts (nan ∷ []) ≡ nan ∷ [] = rw (noughts-sound, noughts-empty) in
     true≢false (sym (ap (λ (xs : List Float). isNan (getD xs 0 nan)) (c .buffer ∙ e)))
@@ -133,11 +127,11 @@ totals-granted a b c t = never cc
 -- ---- orientation: the built-in source does not look at the pool; a NaN is no epoch
 
 pub builtin-damaged : Orients S.Builtin [] 399 nought (O.Refused Q.DamagedPool) → ⊥
-unfolding orientationReply builtinOrientation inReach systemOf rowOf printed round neg le lt eq
+unfolding orientationReply evaluating
 builtin-damaged c = never cc
 
 pub nan-granted : (m : List ℕ) (n : ℕ) (o : Orientation) → Orients S.Builtin m n nan (O.Given o) → ⊥
-unfolding orientationReply builtinOrientation inReach le lt eq
+unfolding orientationReply evaluating
 nan-granted m n o c = never cc
 
 -- ---- radii: the Sun has none, and neither has a code outside the ranges

@@ -7,6 +7,8 @@ use mathlib.Core.Logic.{_↔_}
 use lib.Ieee.{Float}
 use lib.ListN.{length, drop}
 use Rattle.plain.specs.Bytes.{within}
+use Rattle.refusal.specs.Numbers.{numberOf}
+use Rattle.refusal.specs.declared.Refusal.{Refusal}
 use Rattle.rotation.specs.Epochs.{inReach}
 use Rattle.rotation.specs.Codes.{systemOf}
 use Rattle.rotation.specs.Evaluation.{evaluated}
@@ -24,8 +26,11 @@ use Rattle.rotation.specs.declared.table.Radii.{Radii}
 use Rattle.rotation.specs.declared.table.Radii.the-variants as A
 use Rattle.rotation.specs.declared.table.Row.the-variants.{Held}
 use Rattle.rotation.specs.declared.table.Size.the-variants.{Known}
+use Rattle.text.specs.Lines.{lines}
+use Rattle.text.specs.Faults.{refusalOf}
 use Rattle.text.specs.Statements.{Event}
-use Rattle.text.specs.Text.{fine, readText}
+use Rattle.text.specs.Text.{fine, refused, readText}
+use Rattle.text.specs.declared.faults.Fault.{Fault}
 use Rattle.layout.specs.State.{Pool}
 use Rattle.layout.specs.Limits.{room}
 use Rattle.layout.specs.Memory.{decode}
@@ -37,6 +42,7 @@ use Rattle.pool.specs.Fetch as F
 use Rattle.pool.specs.Fetch.{Fetches}
 use Rattle.pool.specs.Totals.{Totals}
 use Rattle.pool.specs.declared.reply.Reply.{Reply}
+use Rattle.pool.specs.declared.reply.Reply.the-variants.{Refused}
 use Rattle.pool.specs.declared.reply.Fetched.{Fetched}
 use Rattle.pool.specs.declared.reply.Counts.{Counts}
 use Rattle.globe.specs.Elements.{there, noneThere, complete, wellCounted, elements, angles, list}
@@ -89,11 +95,23 @@ pub record NoSecondAnswer : Type 0 where
   pub orientation : (source : Source) (memory : List ℕ) (n : ℕ) (epoch : Float) → OneAnswer (Orients source memory n epoch)
   pub radii : (source : Source) (memory : List ℕ) (n : ℕ) → OneAnswer (Measures source memory n)
 
+-- the text's first fault is this refusal, at this one of its lines
+pub record Faulty (bytes : List ℕ) (q : Refusal) (n : ℕ) : Type 0 where
+  pub fault : Fault
+  pub place : ℕ
+  pub refusal : q ≡ refusalOf fault
+  pub read : readText bytes ≡ refused fault n place
+  pub from : 1 ≤ n
+  pub to : n ≤ length (lines bytes)
+
 -- "success is number 0 with line 0, and fetch also tells the count (0 when refused). A refusal returns its number, for 3 to 6 the line (0
 -- for all others), and no values"
 pub record Reports (b : Build) : Type 0 where
   pub success : (c : Call) (m : List ℕ) → accepted (b .answer c m) ≡ true → line (b .answer c m) ≡ 0
   pub others : (c : Call) (m : List ℕ) → within 3 6 (number (b .answer c m)) ≡ false → line (b .answer c m) ≡ 0
+  pub faults :
+      (label : ℕ) (bytes m : List ℕ) (q : Refusal) (n : ℕ) → b .answer (load label bytes) m ≡ C.replied (Refused q n)
+      → within 3 6 (numberOf q) ≡ true → Faulty bytes q n
   pub noValues :
       (c : Call) (m : List ℕ) → accepted (b .answer c m) ≡ false
       → (count (b .answer c m) ≡ 0) × (doubles (b .answer c m) ≡ []) × (totalled (b .answer c m) ≡ [])
