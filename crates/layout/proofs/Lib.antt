@@ -1,5 +1,6 @@
 -- Laws about a pool's memory, for the proofs of the crates above.
 pub mod Areas
+pub mod Small
 pub mod Bytes
 pub mod Tapering
 pub mod Sound

@@ -10,3 +10,4 @@ pub mod Products
 pub mod Sizes
 pub mod Bounded
 pub mod Bits
+pub mod Fields

@@ -14,7 +14,7 @@ use lib.Ieee.Fits.{round-is, nearest-le, two, two-le-pos, down-pos}
 use lib.Ieee.Exact.{HasValue, units-val}
 use Rattle.plain.specs.Sizes.{Below}
 
-of-value : (x : Float) (s : Bool) (g l j : ℕ) → HasValue x s g (2 ^ l) → g < 2 ^ (j + l) → Below j x
+pub of-value : (x : Float) (s : Bool) (g l j : ℕ) → HasValue x s g (2 ^ l) → g < 2 ^ (j + l) → Below j x
 of-value nan s g l j v h = v
 of-value (inf t) s g l j v h = v
 of-value (fin t m e) s g l j v h =

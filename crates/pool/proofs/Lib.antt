@@ -19,3 +19,6 @@ pub mod Labels
 pub mod Rooms
 pub mod Adding
 pub mod Loading
+-- make empty, clear, totals
+pub mod Emptying
+pub mod Tallying

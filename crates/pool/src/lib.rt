@@ -1,4 +1,5 @@
 // The calls on a pool: document 01, "What the library holds".
+pub mod empty;
 pub mod fetch;
 pub mod gather;
 pub mod give;
@@ -6,6 +7,7 @@ pub mod load;
 pub mod name;
 pub mod pen;
 pub mod reply;
+pub mod totals;
 pub mod variable;
 pub mod walk;
 pub mod write;

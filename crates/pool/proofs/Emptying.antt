@@ -1,0 +1,66 @@
+-- Putting no texts writes the totals alone; so make empty and clear leave an undamaged memory that holds nothing. Assumes nothing.
+use mathlib.Core.Path.{_≡_, refl, sym, ap, subst, _∙_}
+use mathlib.Core.Bool.{Bool, true, false}
+use mathlib.Core.List.{List, [], _∷_}
+use Prim.Native.Nat.{ℕ}
+use borrow.Author.Tests.{eq-eqb, ne-eqb, eqb-true}
+use lib.ListN.{length}
+use Rattle.plain.specs.Choice.{if_then_else_}
+use Rattle.refusal.specs.declared.Refusal.the-variants.{DamagedPool}
+use Rattle.words.specs.Over.{over}
+use Rattle.words.proofs.Over.{over-nil}
+use Rattle.layout.specs.State.{program, flat}
+use Rattle.layout.specs.Limits.{WORDS, TEXTS-AT, HEADS-AT, NAMES-AT, VALUES-AT}
+use Rattle.layout.specs.Memory.{decode, put}
+use Rattle.layout.specs.Damage.{sized, sound}
+use Rattle.layout.proofs.Sound.{sound-of}
+use Rattle.layout.proofs.Legal.{fits-none, legal-none}
+use Rattle.layout.proofs.Holds.{decode-put, put-sound}
+use Rattle.pool.specs.Replies.{done, refusing}
+use Rattle.pool.specs.Empty.{emptyReply, clearReply, emptied, Empties, Clears}
+use Rattle.pool.specs.declared.reply.Reply.the-variants.{Done}
+
+-- the totals of nothing
+abbrev NONE : List ℕ
+NONE = 0 ∷ 0 ∷ 0 ∷ []
+
+pub put-none : (m : List ℕ) → put [] m ≡ over 0 NONE m
+unfolding put program flat
+put-none m = ap (over 0 NONE) (over-nil VALUES-AT _ ∙ over-nil NAMES-AT _ ∙ over-nil HEADS-AT _ ∙ over-nil TEXTS-AT m)
+
+-- ---- the two answers of each call
+
+module _ (m : List ℕ) where
+  pub empty-refused : (length m ≡ WORDS → ⊥) → Empties m (refusing DamagedPool) m
+  unfolding emptyReply
+  empty-refused n = let e : sized m ≡ false = ne-eqb (length m) WORDS n in record { reply = rw e; memory = rw e }
+
+  pub empty-done : (after : List ℕ) → length m ≡ WORDS → after ≡ over 0 NONE m → Empties m Done after
+  unfolding emptyReply
+  empty-done after n a = let e : sized m ≡ true = eq-eqb (length m) WORDS n in record { reply = rw e; memory = rw e (a ∙ sym (put-none m)) }
+
+  pub clear-refused : sound m ≡ false → Clears m (refusing DamagedPool) m
+  unfolding clearReply
+  clear-refused e = record { reply = rw e; memory = rw e }
+
+  pub clear-done : (after : List ℕ) → sound m ≡ true → after ≡ over 0 NONE m → Clears m Done after
+  unfolding clearReply
+  clear-done after e a = record { reply = rw e; memory = rw e (a ∙ sym (put-none m)) }
+
+  -- ---- what they leave
+
+  pub empty-sound : sized m ≡ true → sound (emptied (emptyReply m) m) ≡ true
+  unfolding emptyReply
+  empty-sound e = rw e (put-sound [] m fits-none (eqb-true (length m) WORDS e) legal-none)
+
+  pub empty-decode : sized m ≡ true → decode (emptied (emptyReply m) m) ≡ []
+  unfolding emptyReply
+  empty-decode e = rw e (decode-put [] m fits-none (eqb-true (length m) WORDS e) legal-none)
+
+  pub clear-sound : sound m ≡ true → sound (emptied (clearReply m) m) ≡ true
+  unfolding clearReply
+  clear-sound e = rw e (put-sound [] m fits-none (sound-of m e .sizes .words) legal-none)
+
+  pub clear-decode : sound m ≡ true → decode (emptied (clearReply m) m) ≡ []
+  unfolding clearReply
+  clear-decode e = rw e (decode-put [] m fits-none (sound-of m e .sizes .words) legal-none)
