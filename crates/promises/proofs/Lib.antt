@@ -11,7 +11,6 @@ pub mod Room
 pub mod Labels
 pub mod Together
 pub mod Said
-pub mod Held
 pub mod Overflow
 pub mod Proper
 pub mod Fair

@@ -37,7 +37,7 @@ use Rattle.globe.specs.declared.source.Source.{Source}
 use Rattle.globe.specs.declared.source.Source.the-variants as S
 use Rattle.promises.specs.Calls.{asked, library, oriented}
 use Rattle.promises.specs.Demands.{HasElements, NoOverflow}
-use Rattle.promises.proofs.Held.{small-below}
+use Rattle.layout.proofs.Small.{small-below}
 use Rattle.promises.proofs.Oriented.{given-exactly}
 
 -- ---- the values of a variable
