@@ -22,3 +22,5 @@ pub mod Loading
 -- make empty, clear, totals
 pub mod Emptying
 pub mod Tallying
+pub mod Admitted
+pub mod Loaded

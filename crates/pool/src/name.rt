@@ -2,6 +2,7 @@
 use layout::limits::NAMEWORDS;
 use text::classes::Class;
 use text::classes::past;
+use text::statements::NAME;
 use words::compare::same;
 use words::read::part_of;
 ghost use mathlib.Core.Path.{_≡_};
@@ -11,9 +12,6 @@ ghost use Rattle.plain.specs.Lists.{equal};
 ghost use Rattle.words.specs.Over.{part};
 ghost use Rattle.layout.specs.Limits.{NAMEWORDS};
 ghost use Rattle.layout.specs.Names.{legal};
-
-// The longest name.
-const NAME: usize = 32;
 
 // "the longest run of letters, digits or underscores, 1 to 32 of them"
 pub fn is_legal(name: &[u8]) -> bool
