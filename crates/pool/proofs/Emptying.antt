@@ -9,13 +9,14 @@ use Rattle.plain.specs.Choice.{if_then_else_}
 use Rattle.refusal.specs.declared.Refusal.the-variants.{DamagedPool}
 use Rattle.words.specs.Over.{over}
 use Rattle.words.proofs.Over.{over-nil}
+use Rattle.words.proofs.Each.{Words}
 use Rattle.layout.specs.State.{program, flat}
 use Rattle.layout.specs.Limits.{WORDS, TEXTS-AT, HEADS-AT, NAMES-AT, VALUES-AT}
 use Rattle.layout.specs.Memory.{decode, put}
 use Rattle.layout.specs.Damage.{sized, sound}
 use Rattle.layout.proofs.Sound.{sound-of}
-use Rattle.layout.proofs.Legal.{fits-none, legal-none}
-use Rattle.layout.proofs.Holds.{decode-put, put-sound}
+use Rattle.layout.proofs.Legal.{fits-none, legal-none, bounded-none}
+use Rattle.layout.proofs.Holds.{decode-put, put-sound, put-words}
 use Rattle.pool.specs.Replies.{done, refusing}
 use Rattle.pool.specs.Empty.{emptyReply, clearReply, emptied, Empties, Clears}
 use Rattle.pool.specs.declared.reply.Reply.the-variants.{Done}
@@ -35,17 +36,17 @@ module _ (m : List ℕ) where
   unfolding emptyReply
   empty-refused n = let e : sized m ≡ false = ne-eqb (length m) WORDS n in record { reply = rw e; memory = rw e }
 
-  pub empty-done : (after : List ℕ) → length m ≡ WORDS → after ≡ over 0 NONE m → Empties m Done after
+  pub empty-done : (after : List ℕ) → length m ≡ WORDS → after ≡ put [] m → Empties m Done after
   unfolding emptyReply
-  empty-done after n a = let e : sized m ≡ true = eq-eqb (length m) WORDS n in record { reply = rw e; memory = rw e (a ∙ sym (put-none m)) }
+  empty-done after n a = let e : sized m ≡ true = eq-eqb (length m) WORDS n in record { reply = rw e; memory = rw e a }
 
   pub clear-refused : sound m ≡ false → Clears m (refusing DamagedPool) m
   unfolding clearReply
   clear-refused e = record { reply = rw e; memory = rw e }
 
-  pub clear-done : (after : List ℕ) → sound m ≡ true → after ≡ over 0 NONE m → Clears m Done after
+  pub clear-done : (after : List ℕ) → sound m ≡ true → after ≡ put [] m → Clears m Done after
   unfolding clearReply
-  clear-done after e a = record { reply = rw e; memory = rw e (a ∙ sym (put-none m)) }
+  clear-done after e a = record { reply = rw e; memory = rw e a }
 
   -- ---- what they leave
 
@@ -64,3 +65,6 @@ module _ (m : List ℕ) where
   pub clear-decode : sound m ≡ true → decode (emptied (clearReply m) m) ≡ []
   unfolding clearReply
   clear-decode e = rw e (decode-put [] m fits-none (sound-of m e .sizes .words) legal-none)
+
+  pub words-none : length m ≡ WORDS → Words m → Words (put [] m)
+  words-none n w = put-words [] m fits-none n legal-none bounded-none w

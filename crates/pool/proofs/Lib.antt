@@ -19,8 +19,12 @@ pub mod Labels
 pub mod Rooms
 pub mod Adding
 pub mod Loading
+pub mod Admitted
+pub mod Loaded
 -- make empty, clear, totals
 pub mod Emptying
 pub mod Tallying
-pub mod Admitted
-pub mod Loaded
+-- remove
+pub mod Parted
+pub mod Removal
+pub mod Removing

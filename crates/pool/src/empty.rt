@@ -4,6 +4,9 @@ use layout::check::is_sound;
 use layout::limits::WORDS;
 use layout::total::write_totals;
 use refusal::Refusal;
+ghost use mathlib.Core.Path.{_≡_};
+ghost use mathlib.Core.List.{[]};
+ghost use Rattle.layout.specs.Memory.{put};
 ghost use Rattle.pool.specs.Empty.{Empties, Clears};
 
 // The pool holds nothing, whatever it held.
@@ -13,7 +16,7 @@ pub fn make_empty(pool: &mut [u64]) -> Reply
     if pool.len() != WORDS {
         return Reply::Refused(Refusal::DamagedPool, 0);
     }
-    write_totals(pool, 0, 0, 0);
+    hold_nothing(pool);
     Reply::Done
 }
 
@@ -24,6 +27,12 @@ pub fn clear(pool: &mut [u64]) -> Reply
     if !is_sound(pool) {
         return Reply::Refused(Refusal::DamagedPool, 0);
     }
-    write_totals(pool, 0, 0, 0);
+    hold_nothing(pool);
     Reply::Done
+}
+
+fn hold_nothing(pool: &mut [u64])
+    ensures { λ _. ⌜ now (pool .exit) ≡ put [] (now (pool .entry)) ⌝ }
+{
+    write_totals(pool, 0, 0, 0);
 }

@@ -1,4 +1,4 @@
--- `clear` meets its contract: damage is asked first, and then the totals of nothing are written. Assumes nothing.
+-- `clear` meets its contract: damage is asked first, and then nothing is held. Assumes nothing.
 use mathlib.Core.Path.{sym, _∙_}
 use borrow.Author.Needs.{needs}
 use borrow.Author.Tests.{not-true, not-false}
@@ -17,8 +17,8 @@ returns c =
     let s = c .before in
     clear-refused (s .before .before .before .args .pool .now) (sym (s .is-sound .ensures) ∙ not-true _ (c .if1 .taken))
 
-write-totals-requires : tie.Need-write-totals-requires
-write-totals-requires c κs = search needs
+hold-nothing-requires : tie.Need-hold-nothing-requires
+hold-nothing-requires c κs = search needs
 
 same-length-2 : tie.Need-same-length-2
 same-length-2 c = search needs
@@ -28,7 +28,7 @@ returns-2 c =
     let t = c .before .before in
     let b = t .before .before in
     let s = b .before in
-    clear-done (s .before .before .before .args .pool .now) _ (sym (s .is-sound .ensures) ∙ not-false _ (b .if1 .left)) (t .write-totals .ensures)
+    clear-done (s .before .before .before .args .pool .now) _ (sym (s .is-sound .ensures) ∙ not-false _ (b .if1 .left)) (t .hold-nothing .ensures)
 
 pub clear-spec : {M : Type 1} → statement M
-clear-spec = tie.close (tie.spec is-sound-requires same-length returns write-totals-requires same-length-2 returns-2)
+clear-spec = tie.close (tie.spec is-sound-requires same-length returns hold-nothing-requires same-length-2 returns-2)

@@ -1,0 +1,18 @@
+-- `hold_nothing` meets its contract: putting no texts writes the totals alone. Assumes nothing.
+use mathlib.Core.Path.{sym, _∙_}
+use borrow.Author.Needs.{needs}
+use Rattle.pool.proofs.Emptying.{put-none}
+use Rattle.pool.proofs.empty.hold_nothing.Statement.{statement}
+use Rattle.pool.proofs.empty.hold_nothing.Tie as tie
+
+write-totals-requires : tie.Need-write-totals-requires
+write-totals-requires c κs = search needs
+
+same-length : tie.Need-same-length
+same-length c = search needs
+
+returns : tie.Need-returns
+returns c = c .before .before .write-totals .ensures ∙ sym (put-none _)
+
+pub hold-nothing-spec : {M : Type 1} → statement M
+hold-nothing-spec = tie.close (tie.spec write-totals-requires same-length returns)

@@ -1,0 +1,88 @@
+-- A text's gap in every area of a memory, and the memory with the gap closed. Definitions only.
+use Prim.Native.Nat.{ℕ, _+_, _-_, _*_, _≤_, _<_}
+use mathlib.Core.Path.{_≡_}
+use mathlib.Core.List.{List, [], _∷_}
+use lib.ListN.{length, getD}
+use Rattle.words.specs.Over.{over, part, moved}
+use Rattle.words.specs.Halves.{lower, sum}
+use Rattle.layout.specs.Limits.{TEXTS, STATEMENTS, VALUES, WORDS, NAMEWORDS, TEXTS-AT, HEADS-AT, NAMES-AT, VALUES-AT}
+use Rattle.layout.specs.Memory.{textCount, statementCount, valueCount}
+use Rattle.layout.specs.Damage.{Sized}
+use Rattle.pool.specs.declared.gap.Gap.{Gap}
+
+-- ---- the gap of the text at a place
+
+abbrev pub textGap : (place : ℕ) → List ℕ → Gap
+textGap place m = record { before = place; inside = 1; after = textCount m - place - 1 }
+
+-- its statements
+abbrev pub statementsBefore : (place : ℕ) → List ℕ → ℕ
+statementsBefore place m = sum (part TEXTS-AT place m)
+
+abbrev pub statementsInside : (place : ℕ) → List ℕ → ℕ
+statementsInside place m = lower (getD m (TEXTS-AT + place) 0)
+
+abbrev pub statementGap : (place : ℕ) → List ℕ → Gap
+statementGap place m = record {
+  before = statementsBefore place m;
+  inside = statementsInside place m;
+  after = statementCount m - statementsBefore place m - statementsInside place m;
+}
+
+-- the values of the statements in a gap
+abbrev pub valuesBefore : Gap → List ℕ → ℕ
+valuesBefore s m = sum (part HEADS-AT (s .before) m)
+
+abbrev pub valuesInside : Gap → List ℕ → ℕ
+valuesInside s m = sum (part (HEADS-AT + s .before) (s .inside) m)
+
+abbrev pub valueGap : Gap → List ℕ → Gap
+valueGap s m = record { before = valuesBefore s m; inside = valuesInside s m; after = valueCount m - valuesBefore s m - valuesInside s m }
+
+-- ---- closing it
+
+-- what stands after the gap is moved down to where it begins
+abbrev pub closing : (at : ℕ) → Gap → List ℕ → List ℕ
+closing at g m = moved (at + g .before) (at + g .before + g .inside) (g .after) m
+
+-- four words a statement
+abbrev pub fourfold : Gap → Gap
+fourfold g = record { before = NAMEWORDS * g .before; inside = NAMEWORDS * g .inside; after = NAMEWORDS * g .after }
+
+-- how many are left
+abbrev pub left : Gap → ℕ
+left g = g .before + g .after
+
+-- in every area
+unfoldable pub closed : (texts statements values : Gap) → List ℕ → List ℕ
+closed t s v m = closing VALUES-AT v (closing NAMES-AT (fourfold s) (closing HEADS-AT s (closing TEXTS-AT t m)))
+
+-- the memory without the text at a place: every area, and then the totals
+unfoldable pub takenOut : (place : ℕ) → List ℕ → List ℕ
+unfolding closed
+takenOut place m =
+    let t = textGap place m in
+    let s = statementGap place m in
+    let v = valueGap s m in
+    over 0 (left t ∷ left s ∷ left v ∷ []) (closed t s v m)
+
+-- ---- what the functions require: the gap lies within the totals
+
+pub record Spanned (s : Gap) (m : List ℕ) : Type 0 where
+  pub sizes : Sized m
+  pub statements : s .before + s .inside ≤ statementCount m
+  pub values : valuesBefore s m + valuesInside s m ≤ valueCount m
+
+pub record Gapped (place : ℕ) (m : List ℕ) : Type 0 where
+  pub text : place < textCount m
+  pub rest : Spanned (statementGap place m) m
+
+-- a gap with what stands around it
+abbrev pub whole : Gap → ℕ
+whole g = g .before + g .inside + g .after
+
+pub record Closes (t s v : Gap) (m : List ℕ) : Type 0 where
+  pub words : length m ≡ WORDS
+  pub texts : whole t ≤ TEXTS
+  pub statements : whole s ≤ STATEMENTS
+  pub values : whole v ≤ VALUES
