@@ -23,6 +23,17 @@ suffix W.NutPrecPm = 78 ∷ 85 ∷ 84 ∷ 95 ∷ 80 ∷ 82 ∷ 69 ∷ 67 ∷ 95 
 suffix W.NutPrecAngles = 78 ∷ 85 ∷ 84 ∷ 95 ∷ 80 ∷ 82 ∷ 69 ∷ 67 ∷ 95 ∷ 65 ∷ 78 ∷ 71 ∷ 76 ∷ 69 ∷ 83 ∷ []
 suffix W.Radii = 82 ∷ 65 ∷ 68 ∷ 73 ∷ 73 ∷ []
 
+-- the longest of them
+abbrev pub SUFFIX : ℕ
+SUFFIX = 15
+
+-- the largest code, and how many figures it has
+abbrev pub LARGEST : ℕ
+LARGEST = 999
+
+abbrev pub FIGURES : ℕ
+FIGURES = 3
+
 abbrev pub figure : ℕ → ℕ
 figure d = ZERO + d
 

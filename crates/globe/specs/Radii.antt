@@ -25,12 +25,16 @@ use Rattle.globe.specs.declared.source.Source.the-variants as S
 abbrev pub axes : List Float → Axes
 axes xs = record { a = getD xs 0 nan; b = getD xs 1 nan; c = getD xs 2 nan }
 
-abbrev pub bySystem : Pool → (n : ℕ) → System → Radii
-bySystem s n Nowhere = Refused UnknownBody
-bySystem s n (Of k) =
+-- of a body of a known system
+abbrev pub radiiOf : Pool → (n : ℕ) → Radii
+radiiOf s n =
     if there s n W.Radii
     then (if eqb (length (list s n W.Radii)) 3 then Given (axes (list s n W.Radii)) else Refused WrongCount)
     else Refused UnknownBody
+
+abbrev pub bySystem : Pool → (n : ℕ) → System → Radii
+bySystem s n Nowhere = Refused UnknownBody
+bySystem s n (Of k) = radiiOf s n
 
 unfoldable pub radiiFrom : Pool → (n : ℕ) → Radii
 radiiFrom s n = bySystem s n (systemOf n)

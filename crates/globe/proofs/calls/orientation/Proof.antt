@@ -1,0 +1,30 @@
+-- `orientation` meets its contract: each source gives its own answer. Assumes nothing.
+use borrow.Author.Needs.{needs}
+use Rattle.globe.specs.Orientation.{orientationReply}
+use Rattle.globe.proofs.calls.orientation.Statement.{statement}
+use Rattle.globe.proofs.calls.orientation.Tie as tie
+
+enum-told : tie.Need-enum-told
+enum-told c = search needs
+
+from-pool-requires : tie.Need-from-pool-requires
+from-pool-requires c κs = search needs
+
+enum-told-2 : tie.Need-enum-told-2
+enum-told-2 c = search needs
+
+orientation-requires : tie.Need-orientation-requires
+orientation-requires c κs = search needs
+
+returns : tie.Need-returns
+unfolding orientationReply
+returns c = record { reply = rw (c .before .enum-told .given .1) (c .from-pool .ensures) }
+
+returns-2 : tie.Need-returns-2
+unfolding orientationReply
+returns-2 c = record { reply = rw (c .before .enum-told2 .given .1) (c .orientation .ensures) }
+
+pub orientation-spec : {M : Type 1} → statement M
+orientation-spec =
+    tie.close
+    (tie.spec enum-told from-pool-requires enum-told-2 orientation-requires returns returns-2)

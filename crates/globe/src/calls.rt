@@ -1,0 +1,84 @@
+// The calls of document 01, each with its whole contract: a record of what it answers and of the memory that it leaves.
+use super::orientation;
+use super::radii;
+use super::source::Source;
+use pool::empty;
+use pool::fetch;
+use pool::load;
+use pool::remove;
+use pool::reply::Counts;
+use pool::reply::Fetched;
+use pool::reply::Reply;
+use pool::totals;
+use rotation::builtin;
+use rotation::matrix::Oriented;
+use rotation::table::Radii;
+ghost use Rattle.pool.specs.Empty.{Empties, Clears};
+ghost use Rattle.pool.specs.Fetch.{Fetches};
+ghost use Rattle.pool.specs.Load.{Loads};
+ghost use Rattle.pool.specs.Remove.{Removes};
+ghost use Rattle.pool.specs.Totals.{Totals};
+ghost use Rattle.globe.specs.Orientation.{Orients};
+ghost use Rattle.globe.specs.Radii.{Measures};
+
+// A memory of the fixed size is made an empty pool, whatever it held.
+pub fn make_empty(pool: &mut [u64]) -> Reply
+    ensures { λ r. ⌜ Empties (now (pool .entry)) r (now (pool .exit)) ⌝ }
+{
+    empty::make_empty(pool)
+}
+
+// A text is put last, under its label; or it is refused, and nothing is written.
+pub fn load(pool: &mut [u64], label: u32, text: &[u8]) -> Reply
+    ensures { λ r. ⌜ Loads label (now (text .entry)) (now (pool .entry)) r (now (pool .exit)) ⌝ }
+{
+    load::load(pool, label, text)
+}
+
+// The text under a label is taken out.
+pub fn remove(pool: &mut [u64], label: u32) -> Reply
+    ensures { λ r. ⌜ Removes label (now (pool .entry)) r (now (pool .exit)) ⌝ }
+{
+    remove::remove(pool, label)
+}
+
+// All texts are taken out.
+pub fn clear(pool: &mut [u64]) -> Reply
+    ensures { λ r. ⌜ Clears (now (pool .entry)) r (now (pool .exit)) ⌝ }
+{
+    empty::clear(pool)
+}
+
+// How many texts, statements and values are held.
+pub fn totals(pool: &[u64]) -> Counts
+    ensures { λ r. ⌜ Totals (now (pool .entry)) r ⌝ }
+{
+    totals::totals(pool)
+}
+
+// The values of a variable, written from the buffer's start.
+pub fn fetch(pool: &[u64], name: &[u8], buffer: &mut [f64]) -> Fetched
+    ensures { λ r. ⌜ Fetches (now (name .entry)) (now (pool .entry)) (now (buffer .entry)) r (now (buffer .exit)) ⌝ }
+{
+    fetch::fetch(pool, name, buffer)
+}
+
+// The orientation of a body at an epoch, in TDB seconds past J2000. The pool is looked at only where it is the source.
+pub fn orientation(source: Source, pool: &[u64], code: u32, epoch: f64) -> Oriented
+    ensures { λ r. ⌜ Orients source (now (pool .entry)) code epoch r ⌝ }
+{
+    match source {
+        Source::Pool => orientation::from_pool(pool, code, epoch),
+        Source::Builtin => builtin::orientation(code, epoch),
+    }
+}
+
+// The radii of a body in km. The pool is looked at only where it is the source.
+pub fn radii(source: Source, pool: &[u64], code: u32) -> Radii
+    ensures { λ r. ⌜ Measures source (now (pool .entry)) code r ⌝ }
+{
+    match source {
+        Source::Pool => radii::from_pool(pool, code),
+        Source::Builtin => builtin::radii(code),
+    }
+}

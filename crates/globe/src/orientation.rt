@@ -1,0 +1,94 @@
+// An orientation from a pool: 15, 9, 10, 11, 12, or document 01's evaluation.
+use super::elements;
+use super::elements::Base;
+use super::name::Wanted;
+use super::nutation;
+use super::nutation::ANGLES;
+use super::nutation::COEFFICIENTS;
+use super::nutation::Terms;
+use layout::check::is_sound;
+use refusal::Refusal;
+use rotation::code;
+use rotation::code::System;
+use rotation::epoch;
+use rotation::matrix::Oriented;
+ghost use mathlib.Core.Path.{_≡_};
+ghost use mathlib.Core.Bool.{true};
+ghost use Prim.Native.Nat.{_≤_};
+ghost use Rattle.layout.specs.Memory.{decode};
+ghost use Rattle.layout.specs.Damage.{sound};
+ghost use Rattle.globe.specs.Names.{LARGEST};
+ghost use Rattle.globe.specs.Orientation.{orientationReply, orientationFrom, byElements};
+ghost use Rattle.globe.specs.Steps.{Askable, byNutation};
+ghost use Rattle.globe.specs.declared.source.Source.the-variants as Source;
+ghost use Rattle.rotation.specs.declared.code.System.the-variants.{Of};
+
+// 15 first.
+pub fn from_pool(pool: &[u64], code: u32, epoch: f64) -> Oriented
+    ensures { λ r. ⌜ r ≡ orientationReply Source.Pool (now (pool .entry)) code epoch ⌝ }
+{
+    if !is_sound(pool) {
+        return Oriented::Refused(Refusal::DamagedPool);
+    }
+    at_epoch(pool, code, epoch)
+}
+
+// 9, then 10 for a code of no system.
+fn at_epoch(pool: &[u64], code: u32, epoch: f64) -> Oriented
+    requires { ⌜ sound (now pool) ≡ true ⌝ }
+    ensures { λ r. ⌜ r ≡ orientationFrom (decode (now (pool .entry))) code epoch ⌝ }
+{
+    if !epoch::in_reach(epoch) {
+        return Oriented::Refused(Refusal::Epoch);
+    }
+    let system = code::system_of(code);
+    let System::Of(k) = system else {
+        return Oriented::Refused(Refusal::UnknownBody);
+    };
+    by_elements(pool, code, k, epoch)
+}
+
+// "None of the three present: 10; some missing: 11."
+fn by_elements(pool: &[u64], code: u32, system: u32, epoch: f64) -> Oriented
+    requires { ⌜ (Askable (now pool) code) × (system ≤ LARGEST) ⌝ }
+    ensures { λ r. ⌜ r ≡ byElements (decode (now (pool .entry))) code epoch (Of system) ⌝ }
+{
+    let ra = elements::polynomial_of(pool, code, Wanted::PoleRa);
+    let dec = elements::polynomial_of(pool, code, Wanted::PoleDec);
+    let pm = elements::polynomial_of(pool, code, Wanted::Pm);
+    let held = elements::count_held(ra, dec, pm);
+    if held == 0 {
+        return Oriented::Refused(Refusal::UnknownBody);
+    }
+    if held < 3 {
+        return Oriented::Refused(Refusal::Incomplete);
+    }
+    by_nutation(pool, code, system, epoch, elements::assemble(ra, dec, pm))
+}
+
+// 11 for angles that are wanted and absent; 12 for wrong counts; else the evaluation.
+fn by_nutation(pool: &[u64], code: u32, system: u32, epoch: f64, base: Base) -> Oriented
+    requires { ⌜ (Askable (now pool) code) × (system ≤ LARGEST) ⌝ }
+    ensures { λ r. ⌜ r ≡ byNutation (decode (now (pool .entry))) code system epoch base ⌝ }
+{
+    let mut ra = [0.0; COEFFICIENTS];
+    let mut dec = [0.0; COEFFICIENTS];
+    let mut pm = [0.0; COEFFICIENTS];
+    let mut angles = [0.0; ANGLES];
+    let r = elements::find(pool, code, Wanted::NutPrecRa, &mut ra);
+    let d = elements::find(pool, code, Wanted::NutPrecDec, &mut dec);
+    let p = elements::find(pool, code, Wanted::NutPrecPm, &mut pm);
+    let wanted = nutation::any_there(r, d, p);
+    let a = nutation::find_angles(pool, system, wanted, &mut angles);
+    let terms = nutation::count_terms(a, r, d, p);
+    match terms {
+        Terms::Missing => Oriented::Refused(Refusal::Incomplete),
+        Terms::Miscounted => Oriented::Refused(Refusal::WrongCount),
+        Terms::Counted(n) => {
+            let Base::Whole(e) = base else {
+                return Oriented::Refused(Refusal::WrongCount);
+            };
+            Oriented::Given(nutation::evaluate(e, epoch, n, &angles, &ra, &dec, &pm))
+        }
+    }
+}

@@ -1,0 +1,62 @@
+// Radii from a pool: 15, 10, 12, or three values.
+use super::elements;
+use super::name::Wanted;
+use layout::check::is_sound;
+use pool::variable::Found;
+use refusal::Refusal;
+use rotation::code;
+use rotation::code::System;
+use rotation::table::Axes;
+use rotation::table::Radii;
+ghost use mathlib.Core.Path.{_≡_};
+ghost use mathlib.Core.Bool.{true};
+ghost use Rattle.layout.specs.Memory.{decode};
+ghost use Rattle.layout.specs.Damage.{sound};
+ghost use Rattle.globe.specs.declared.source.Source.the-variants as Source;
+ghost use Rattle.globe.specs.Steps.{Askable};
+ghost use Rattle.globe.specs.Radii.{radiiReply, radiiFrom, radiiOf};
+
+// 15 first.
+pub fn from_pool(pool: &[u64], code: u32) -> Radii
+    ensures { λ r. ⌜ r ≡ radiiReply Source.Pool (now (pool .entry)) code ⌝ }
+{
+    if !is_sound(pool) {
+        return Radii::Refused(Refusal::DamagedPool);
+    }
+    by_code(pool, code)
+}
+
+// 10 for a code of no system.
+fn by_code(pool: &[u64], code: u32) -> Radii
+    requires { ⌜ sound (now pool) ≡ true ⌝ }
+    ensures { λ r. ⌜ r ≡ radiiFrom (decode (now (pool .entry))) code ⌝ }
+{
+    let system = code::system_of(code);
+    match system {
+        System::Of(_) => of_body(pool, code),
+        System::Nowhere => Radii::Refused(Refusal::UnknownBody),
+    }
+}
+
+// "BODYn_RADII absent: 10; not three values: 12."
+fn of_body(pool: &[u64], code: u32) -> Radii
+    requires { ⌜ Askable (now pool) code ⌝ }
+    ensures { λ r. ⌜ r ≡ radiiOf (decode (now (pool .entry))) code ⌝ }
+{
+    let mut xs = [0.0; 3];
+    let found = elements::find(pool, code, Wanted::Radii, &mut xs);
+    match found {
+        Found::Count(n) => {
+            if n < 3 {
+                return Radii::Refused(Refusal::WrongCount);
+            }
+            Radii::Given(Axes {
+                a: xs[0],
+                b: xs[1],
+                c: xs[2],
+            })
+        }
+        Found::TooMany => Radii::Refused(Refusal::WrongCount),
+        Found::Absent => Radii::Refused(Refusal::UnknownBody),
+    }
+}
