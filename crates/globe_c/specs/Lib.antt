@@ -1,0 +1,2 @@
+-- The answers as C sees them.
+pub mod Faces

@@ -1,0 +1,103 @@
+// The C face: the calls of include/globe.h, each a call of `globe` with its answer as a C structure.
+mod face;
+
+pub use face::GlobeAxes;
+pub use face::GlobeCounts;
+pub use face::GlobeFetched;
+pub use face::GlobeOriented;
+pub use face::GlobeReply;
+use globe::calls;
+use globe::source::Source;
+use layout::limits::WORDS;
+ghost use mathlib.Core.Path.{_≡_};
+ghost use mathlib.Core.List.{[]};
+ghost use lib.ListN.{length};
+ghost use Rattle.layout.specs.Limits.{WORDS};
+ghost use Rattle.pool.specs.Empty.{emptyReply, clearReply, emptied};
+ghost use Rattle.pool.specs.Load.{loadReply, loadMemory};
+ghost use Rattle.pool.specs.Remove.{removeReply, removeMemory};
+ghost use Rattle.pool.specs.Fetch.{fetchReply, fetchBuffer};
+ghost use Rattle.pool.specs.Totals.{totalsReply};
+ghost use Rattle.globe.specs.Orientation.{orientationReply};
+ghost use Rattle.globe.specs.Radii.{radiiReply};
+ghost use Rattle.globe.specs.declared.source.Source.the-variants.{Pool, Builtin};
+ghost use Rattle.globe_c.specs.Faces.{Changes, Fetches, countsFace, orientedFace, axesFace};
+
+#[no_mangle]
+pub extern "C" fn globe_pool_words() -> usize
+    ensures { λ r. ⌜ r ≡ WORDS ⌝ }
+{
+    WORDS
+}
+
+#[no_mangle]
+pub extern "C" fn globe_make_empty(pool: &mut [u64]) -> GlobeReply
+    ensures { λ r. ⌜ Changes (emptyReply (now (pool .entry))) (emptied (emptyReply (now (pool .entry))) (now (pool .entry))) r (now (pool .exit)) ⌝ }
+{
+    face::reply_face(calls::make_empty(pool))
+}
+
+#[no_mangle]
+pub extern "C" fn globe_load(pool: &mut [u64], label: u32, text: &[u8]) -> GlobeReply
+    ensures { λ r. ⌜ Changes (loadReply label (now (text .entry)) (now (pool .entry))) (loadMemory label (now (text .entry)) (now (pool .entry))) r (now (pool .exit)) ⌝ }
+{
+    face::reply_face(calls::load(pool, label, text))
+}
+
+#[no_mangle]
+pub extern "C" fn globe_remove(pool: &mut [u64], label: u32) -> GlobeReply
+    ensures { λ r. ⌜ Changes (removeReply label (now (pool .entry))) (removeMemory label (now (pool .entry))) r (now (pool .exit)) ⌝ }
+{
+    face::reply_face(calls::remove(pool, label))
+}
+
+#[no_mangle]
+pub extern "C" fn globe_clear(pool: &mut [u64]) -> GlobeReply
+    ensures { λ r. ⌜ Changes (clearReply (now (pool .entry))) (emptied (clearReply (now (pool .entry))) (now (pool .entry))) r (now (pool .exit)) ⌝ }
+{
+    face::reply_face(calls::clear(pool))
+}
+
+#[no_mangle]
+pub extern "C" fn globe_fetch(pool: &[u64], name: &[u8], buffer: &mut [f64]) -> GlobeFetched
+    ensures { λ r. ⌜ Fetches (fetchReply (now (name .entry)) (length (now (buffer .entry))) (now (pool .entry))) (fetchBuffer (now (name .entry)) (now (pool .entry)) (now (buffer .entry))) r (now (buffer .exit)) ⌝ }
+{
+    face::fetched_face(calls::fetch(pool, name, buffer))
+}
+
+#[no_mangle]
+pub extern "C" fn globe_totals(pool: &[u64]) -> GlobeCounts
+    ensures { λ r. ⌜ r ≡ countsFace (totalsReply (now (pool .entry))) ⌝ }
+{
+    face::counts_face(calls::totals(pool))
+}
+
+#[no_mangle]
+pub extern "C" fn globe_orientation(pool: &[u64], body: u32, epoch: f64) -> GlobeOriented
+    ensures { λ r. ⌜ r ≡ orientedFace (orientationReply Pool (now (pool .entry)) body epoch) ⌝ }
+{
+    face::oriented_face(calls::orientation(Source::Pool, pool, body, epoch))
+}
+
+#[no_mangle]
+pub extern "C" fn globe_builtin_orientation(body: u32, epoch: f64) -> GlobeOriented
+    ensures { λ r. ⌜ r ≡ orientedFace (orientationReply Builtin [] body epoch) ⌝ }
+{
+    let none: [u64; 0] = [];
+    face::oriented_face(calls::orientation(Source::Builtin, &none, body, epoch))
+}
+
+#[no_mangle]
+pub extern "C" fn globe_radii(pool: &[u64], body: u32) -> GlobeAxes
+    ensures { λ r. ⌜ r ≡ axesFace (radiiReply Pool (now (pool .entry)) body) ⌝ }
+{
+    face::axes_face(calls::radii(Source::Pool, pool, body))
+}
+
+#[no_mangle]
+pub extern "C" fn globe_builtin_radii(body: u32) -> GlobeAxes
+    ensures { λ r. ⌜ r ≡ axesFace (radiiReply Builtin [] body) ⌝ }
+{
+    let none: [u64; 0] = [];
+    face::axes_face(calls::radii(Source::Builtin, &none, body))
+}
