@@ -1,30 +1,29 @@
 -- A text that is accepted, written behind what is held, is the state with one text more. Assumes nothing.
-use Prim.Native.Nat.{ℕ, _+_, _*_, _-_, _≤_, _<_}
+use Prim.Native.Nat.{ℕ, _+_, _*_, _-_}
 use native.Mathlib.Omega.{arith}
 use mathlib.Core.Path.{_≡_, refl, sym, ap, _∙_}
-use mathlib.Core.Bool.{true}
-use mathlib.Core.List.{List, [], _∷_, _++_}
+use mathlib.Core.List.{List, [], _∷_}
 use lib.ListN.{length, length-append}
-use Rattle.text.specs.Statements.{Event, Statement, gathered, statements, openings, givings}
+use Rattle.text.specs.Statements.{Event, Statement, statements, openings, givings}
 use Rattle.text.specs.Text.{Read, fine, readText}
 use Rattle.text.proofs.Counts.{total, statements-counted, values-counted}
 use Rattle.text.proofs.Legal.{none-loose}
 use Rattle.words.specs.Halves.{HALF}
 use Rattle.words.specs.Over.{over}
 use Rattle.words.proofs.Each.{Words}
-use Rattle.layout.specs.State.{Text, Pool, program, flat, valuesOf, values}
-use Rattle.layout.specs.Limits.{NAMEWORDS, TEXTS-AT, HEADS-AT, NAMES-AT, VALUES-AT, TEXTS, STATEMENTS, VALUES}
-use Rattle.layout.specs.Memory.{textCount, statementCount, valueCount, textWord, headWord, nameOf, totals, decode, put}
-use Rattle.layout.specs.Damage.{sound}
+use Rattle.layout.specs.State.{Pool, program, flat, valuesOf, values}
+use Rattle.layout.specs.Limits.{NAMEWORDS, TEXTS-AT, HEADS-AT, NAMES-AT, VALUES-AT}
+use Rattle.layout.specs.Memory.{textCount, statementCount, valueCount, textWord, headWord, nameOf, decode, put}
 use Rattle.layout.proofs.Changes.{added}
 use Rattle.layout.proofs.Codec.{length-laid-names}
 use Rattle.layout.proofs.Columns.{addColumns}
-use Rattle.layout.proofs.Holds.{Holds, holds-decode, perText, perStatement, length-laid-texts, length-laid-heads}
-use Rattle.layout.proofs.Legal.{Fits, fits-of}
+use Rattle.layout.proofs.Holds.{holds-decode, perText, perStatement, length-laid-texts, length-laid-heads}
+use Rattle.layout.proofs.Legal.{fits-of}
 use Rattle.layout.proofs.Sound.{sound-of}
 use Rattle.pool.specs.Load as L
 use Rattle.pool.specs.Load.{textOf, with}
-use Rattle.pool.specs.Writing.{Page, page, penBehind, writtenOn, Room, Admits, Accepts}
+use Rattle.pool.specs.Writing.{Page, page, penBehind, writtenOn}
+use Rattle.pool.specs.Pens.{Admits, Accepts}
 use Rattle.pool.specs.declared.pen.Pen.{Pen}
 use Rattle.pool.proofs.Laid.{laidOn, Apart, all-written}
 use Rattle.pool.proofs.Rooms.{Leaves, fits-leaves, texts-with, statements-with, values-with}

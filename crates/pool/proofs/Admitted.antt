@@ -1,30 +1,26 @@
 -- What an admitted text adds can be held: its names are legal, every statement has a value, and the values are finite and below 2^200
 -- in size. Assumes nothing.
-use Prim.Native.Nat.{ℕ, _+_, _*_, _/_, _%_, _^_, _≤_, _<_}
+use Prim.Native.Nat.{ℕ, _+_, _*_, _%_, _^_, _<_}
 use native.Mathlib.Omega.{arith}
-use mathlib.Core.Path.{_≡_, refl, sym, ap, subst, _∙_}
+use mathlib.Core.Path.{_≡_, subst}
 use mathlib.Core.Bool.{Bool, true, false, _&&_}
-use mathlib.Core.List.{List, [], _∷_}
+use mathlib.Core.List.{List}
 use borrow.Author.Tests.{lt-ltb}
 use lib.Dec.{T, leb}
 use lib.IntN.{ℤ, pos, negsuc, natAbs}
 use lib.Ieee.{Float, binary64, toBits, fits}
 use lib.Ieee.Bits.{toBits-lt}
 use lib.Ieee.Fits.{mul-fits, div-fits, neg-fits}
-use lib.ListN.{length}
-use Rattle.plain.specs.Bytes.{within}
 use Rattle.plain.specs.Choice.{if_then_else_}
 use Rattle.decimal.specs.Form.{Written, number, broken, written}
 use Rattle.decimal.specs.Class.{LARGEST, STEEPEST, scaledBy, signed, valued, reading}
-use Rattle.decimal.specs.declared.Reading.the-variants.{Number, BadForm, OutsideClass}
+use Rattle.decimal.specs.declared.Reading.the-variants.{Number, OutsideClass}
 use Rattle.decimal.proofs.Bounded.{reading-bits}
 use Rattle.text.specs.Classes.{nameByte}
-use Rattle.text.specs.Statements.{Event, Statement, NAME, statements}
+use Rattle.text.specs.Statements.{Event, Statement, statements}
 use Rattle.text.specs.Text.{fine, readText}
 use Rattle.text.proofs.Legal.{all-legal}
 use Rattle.text.proofs.Legal as T
-use Rattle.text.proofs.Names.{LegalName}
-use Rattle.words.specs.Halves.{all}
 use Rattle.words.proofs.Each.{Each, each-all, each-weaken, Words, WORD}
 use Rattle.layout.specs.Names.{legal}
 use Rattle.layout.specs.Damage.{BIAS, exponentField, small}

@@ -12,7 +12,7 @@ use Rattle.plain.specs.Choice.{if_then_else_}
 use Rattle.plain.specs.Bytes.{OPEN}
 use Rattle.plain.specs.Runs.{past}
 use Rattle.text.specs.Classes.{blank, stands}
-use Rattle.text.specs.Values.{Items, items, tally, Given, given, wrong, rest, some, listEnd, listed, alone, valueAt, givenAt}
+use Rattle.text.specs.Values.{items, given, wrong, rest, some, listEnd, listed, valueAt, givenAt}
 use Rattle.text.specs.declared.faults.Fault.{Fault}
 use Rattle.text.specs.declared.faults.Fault.the-variants as F
 use Rattle.text.specs.declared.line.Reader.{Reader}
@@ -20,17 +20,17 @@ use Rattle.text.specs.declared.line.Reader.the-variants as R
 use Rattle.text.specs.declared.values.Counted.{Counted}
 use Rattle.text.specs.declared.values.Stop.{Stop}
 use Rattle.text.specs.declared.values.Stop.the-variants as S
-use Rattle.text.specs.declared.values.Word.{Word}
 use Rattle.text.specs.declared.values.Word.the-variants as W
 use Rattle.text.proofs.Bounds.{few-items}
 use Rattle.words.specs.Over.{over}
-use Rattle.pool.specs.Writing.{page, bits, toldOn, givenOn, afterList, Stores, Turns}
+use Rattle.pool.specs.Writing.{page, toldOn}
+use Rattle.pool.specs.Pens.{afterList, Stores, Gives}
 use Rattle.pool.specs.declared.pen.Pen.{Pen}
 
 -- ---- how a list ends in a line
 
 -- these numbers are given, and this reader follows
-record Gives (ys xs : List Float) (r s : Reader) : Type 0 where
+record Ends (ys xs : List Float) (r s : Reader) : Type 0 where
   numbers : ys ≡ xs
   reader : r ≡ s
 
@@ -38,29 +38,29 @@ some-counted : (xs : List Float) → some xs ≡ ltb 0 (length xs)
 some-counted [] = refl
 some-counted (x ∷ xs) = sym (lt-ltb 0 (suc (length xs)) (omega arith))
 
-rest-given : (ys : List Float) (line : List ℕ) (i : ℕ) (s : Reader) (xs : List Float) → rest ys line i ≡ given s xs → Gives ys xs R.Data s
+rest-given : (ys : List Float) (line : List ℕ) (i : ℕ) (s : Reader) (xs : List Float) → rest ys line i ≡ given s xs → Ends ys xs R.Data s
 unfolding rest
 rest-given ys line i s xs = by (ltb (past blank line i) (length line))
   where
-    by : (b : Bool) → (if b then wrong F.RestOfLine (past blank line i) else given R.Data ys) ≡ given s xs → Gives ys xs R.Data s
+    by : (b : Bool) → (if b then wrong F.RestOfLine (past blank line i) else given R.Data ys) ≡ given s xs → Ends ys xs R.Data s
     by true e = let z : _≡_ {A = ℕ} 0 1 = cc in absurd (omega arith)
     by false e = record { numbers = cc; reader = cc }
 
 end-given : (filled : Bool) (ys : List Float) (line : List ℕ) (t : Stop) (s : Reader) (xs : List Float)
-    → listEnd filled ys line t ≡ given s xs → Gives ys xs (afterList filled (length ys) t) s
+    → listEnd filled ys line t ≡ given s xs → Ends ys xs (afterList filled (length ys) t) s
 end-given filled ys line S.End s xs e =
     let p : ys ≡ xs = cc in
     let q : (if filled || some ys then R.Filled else R.Open) ≡ s = cc in
     record { numbers = p; reader = rw (sym (some-counted ys)) q }
 end-given filled ys line (S.Close k) s xs e = by (filled || some ys) e
   where
-    by : (b : Bool) → (if b then rest ys line (k + 1) else wrong F.OpenList k) ≡ given s xs → Gives ys xs R.Data s
+    by : (b : Bool) → (if b then rest ys line (k + 1) else wrong F.OpenList k) ≡ given s xs → Ends ys xs R.Data s
     by true e = rest-given ys line (k + 1) s xs e
     by false e = let z : _≡_ {A = ℕ} 0 1 = cc in absurd (omega arith)
 end-given filled ys line (S.Fault q k) s xs e = let z : _≡_ {A = ℕ} 0 1 = cc in absurd (omega arith)
 
 list-given : (filled : Bool) (line : List ℕ) (i : ℕ) (s : Reader) (xs : List Float)
-    → listed filled line i ≡ given s xs → Gives (items line i .numbers) xs (afterList filled (length (items line i .numbers)) (items line i .stop)) s
+    → listed filled line i ≡ given s xs → Ends (items line i .numbers) xs (afterList filled (length (items line i .numbers)) (items line i .stop)) s
 unfolding listed
 list-given filled line i s xs e = end-given filled (items line i .numbers) line (items line i .stop) s xs e
 
@@ -76,7 +76,7 @@ module _ (line : List ℕ) (pen told : Pen) (before mid after : List ℕ) where
   -- a list
   pub list-turns : (from : ℕ) (filled : Bool) (c : Counted) (r : Reader)
       → Stores line from (pen .values) before c mid → page after told ≡ toldOn (c .numbers) (page mid pen) → r ≡ afterList filled (c .numbers) (c .stop)
-      → (s : Reader) (xs : List Float) → listed filled line from ≡ given s xs → Turns (givenOn xs (page before pen)) s after (record { pen = told; reader = r })
+      → Gives (listed filled line from) (page before pen) after (record { pen = told; reader = r })
   list-turns from filled c r f p q s xs e =
       let g = list-given filled line from s xs e in
       let n : c .numbers ≡ length (items line from .numbers) = ap (λ (x : Counted). x .numbers) (f .count) in
@@ -85,7 +85,7 @@ module _ (line : List ℕ) (pen told : Pen) (before mid after : List ℕ) where
   -- one number alone
   pub value-turns : (i : ℕ) (x : Float) (k : ℕ) → stands OPEN line i ≡ false → valueAt line i ≡ W.Number x k
       → mid ≡ over (pen .values) (toBits binary64 x ∷ []) before → page after told ≡ toldOn 1 (page mid pen)
-      → (s : Reader) (xs : List Float) → givenAt line i ≡ given s xs → Turns (givenOn xs (page before pen)) s after (record { pen = told; reader = R.Data })
+      → Gives (givenAt line i) (page before pen) after (record { pen = told; reader = R.Data })
   unfolding givenAt
   value-turns i x k o v w p s xs e =
       let a : rest (x ∷ []) line k ≡ given s xs = rw (o, v) at e in

@@ -1,15 +1,15 @@
 -- Events written one after the other leave what their statements leave that are laid out in the columns at once. Assumes nothing.
-use Prim.Native.Nat.{ℕ, zero, suc, _+_, _*_, _-_, _≤_, _<_}
+use Prim.Native.Nat.{ℕ, suc, _+_, _*_, _-_, _≤_}
 use native.Mathlib.Nat.{add-zero}
 use native.Mathlib.Omega.{arith}
-use mathlib.Core.Path.{_≡_, refl, sym, ap, _∙_}
+use mathlib.Core.Path.{_≡_, sym, ap, _∙_}
 use mathlib.Core.List.{List, [], _∷_, _++_}
 use lib.Ieee.{Float, binary64, toBits}
 use lib.ListN.{length}
 use Rattle.text.specs.Statements.{Event, opened, value, Statement, Gathered, gathered, statements}
 use Rattle.text.specs.declared.statements.Operator.{Operator}
 use Rattle.words.specs.Over.{over}
-use Rattle.words.specs.Halves.{HALF, joined}
+use Rattle.words.specs.Halves.{joined}
 use Rattle.words.proofs.Over.{over-nil, over-append, over-comm}
 use Rattle.layout.specs.State.{flat, valuesOf}
 use Rattle.layout.specs.Limits.{NAMEWORDS}
@@ -17,7 +17,7 @@ use Rattle.layout.specs.Names.{packed}
 use Rattle.layout.specs.Memory.{operatorNumber, headWord, nameOf}
 use Rattle.layout.proofs.Codec.{length-laid-names}
 use Rattle.layout.proofs.Holds.{length-laid-heads}
-use Rattle.pool.specs.Writing.{Page, page, bareHead, openedOn, toldOn, givenOn, writtenOn}
+use Rattle.pool.specs.Writing.{Page, bareHead, openedOn, toldOn, givenOn, writtenOn}
 use Rattle.pool.specs.declared.pen.Pen.{Pen}
 use Rattle.pool.proofs.Pages.{over-again}
 

@@ -1,7 +1,7 @@
 -- A line that the rules admit is written as its events are. Assumes nothing.
 use Prim.Native.Nat.{ℕ, _+_, _-_, _≤_, _<_}
 use native.Mathlib.Omega.{arith}
-use mathlib.Core.Path.{_≡_, refl, sym, ap, _∙_, subst}
+use mathlib.Core.Path.{_≡_, sym, ap, _∙_}
 use mathlib.Core.Bool.{Bool, true, false}
 use mathlib.Core.List.{List, [], _∷_, _++_, map}
 use lib.Dec.{ltb}
@@ -19,12 +19,12 @@ use Rattle.text.specs.declared.faults.Fault.{Fault}
 use Rattle.text.specs.declared.faults.Fault.the-variants as F
 use Rattle.text.specs.declared.line.Reader.{Reader}
 use Rattle.text.specs.declared.line.Reader.the-variants as R
-use Rattle.text.specs.declared.delimiters.Mark.{Mark}
 use Rattle.text.specs.declared.delimiters.Mark.the-variants as M
 use Rattle.text.specs.declared.statements.Head.{Head}
 use Rattle.text.specs.declared.statements.Head.the-variants as H
 use Rattle.text.specs.declared.statements.Operator.{Operator}
-use Rattle.pool.specs.Writing.{Page, page, bareHead, openedOn, givenOn, writtenOn, Turns, Ready, Roomy}
+use Rattle.pool.specs.Writing.{Page, page, bareHead, openedOn, givenOn, writtenOn}
+use Rattle.pool.specs.Pens.{Ready, Roomy, Turns, Gives}
 use Rattle.pool.specs.declared.pen.Pen.{Pen}
 use Rattle.pool.specs.declared.pen.Turn.{Turn}
 use Rattle.pool.proofs.Pages.{values-written, bare-small}
@@ -117,7 +117,7 @@ module _ (m : List ℕ) (pen : Pen) (s : Reader) (es : List Event) where
 
   -- values are given to the statement opened last
   pub values-turn : (g : Given) (after : List ℕ) (r : Turn) → 1 ≤ pen .heads → pen .heads ≤ pen .values
-      → ((t : Reader) (xs : List Float) → g ≡ given t xs → Turns (givenOn xs (page m pen)) t after r)
+      → Gives g (page m pen) after r
       → adding [] g ≡ next s es → Turns (writtenOn es (page m pen)) s after r
   values-turn g after r h k f e =
       let a = adding-next [] g s es e in
@@ -129,7 +129,7 @@ module _ (m : List ℕ) (pen : Pen) (s : Reader) (es : List Event) where
   pub statement-turns : (line : List ℕ) (h : Head) (n e : ℕ) (o : Operator) (i : ℕ) (mid : List ℕ) (begun : Pen) (after : List ℕ) (r : Turn)
       → h ≡ H.Named n e o i → pen .heads < pen .values
       → page mid begun ≡ openedOn (take (e - n) (drop n line)) o (page m pen)
-      → ((t : Reader) (xs : List Float) → givenAt line i ≡ given t xs → Turns (givenOn xs (page mid begun)) t after r)
+      → Gives (givenAt line i) (page mid begun) after r
       → stated line h ≡ next s es → Turns (writtenOn es (page m pen)) s after r
   unfolding writtenOn openedOn
   statement-turns line h n e o i mid begun after r q k p f u =

@@ -1,19 +1,18 @@
 -- A load keeps an undamaged pool undamaged, and what is held after it is what the answer says. Assumes nothing.
-use Prim.Native.Nat.{ℕ, _≤_, _<_}
-use native.Mathlib.Omega.{arith}
-use mathlib.Core.Path.{_≡_, refl, sym, ap, subst, _∙_}
+use Prim.Native.Nat.{ℕ, _≤_}
+use mathlib.Core.Path.{_≡_, refl, sym, subst}
 use mathlib.Core.Bool.{Bool, true, false}
 use mathlib.Core.List.{List, [], _∷_}
 use borrow.Author.Tests.{eqb-false, ltb-false}
 use lib.Dec.{eqb, ltb}
 use lib.ListN.{length}
 use Rattle.plain.specs.Choice.{if_then_else_}
-use Rattle.refusal.specs.declared.Refusal.the-variants.{LabelHeld, TextTooLong, DamagedPool}
-use Rattle.text.specs.Statements.{Event, Statement}
+use Rattle.refusal.specs.declared.Refusal.the-variants.{LabelHeld, TextTooLong}
+use Rattle.text.specs.Statements.{Event}
 use Rattle.text.specs.Text.{Read, fine, refused, readText}
 use Rattle.words.proofs.Each.{Each}
-use Rattle.words.proofs.Tests.{true-false, not-then}
-use Rattle.layout.specs.State.{Text, Pool}
+use Rattle.words.proofs.Tests.{true-false}
+use Rattle.layout.specs.State.{Pool}
 use Rattle.layout.specs.Limits.{room}
 use Rattle.layout.specs.Memory.{decode, put}
 use Rattle.layout.specs.Damage.{sound}
@@ -22,8 +21,6 @@ use Rattle.layout.proofs.Legal.{Fair, Legal, fits-of, legal-add}
 use Rattle.layout.proofs.Sound.{sound-of}
 use Rattle.pool.specs.Replies.{done, refusing}
 use Rattle.pool.specs.Load.{LONGEST, held, textOf, with, admitted, loadAnswer, loadReply, loadMemory}
-use Rattle.pool.specs.declared.reply.Reply.{Reply}
-use Rattle.pool.specs.declared.reply.Reply.the-variants.{Done, Refused}
 use Rattle.pool.proofs.Adding.{body-read}
 use Rattle.pool.proofs.Admitted.{text-fair}
 

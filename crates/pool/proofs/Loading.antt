@@ -5,14 +5,12 @@ use mathlib.Core.Path.{_≡_, refl, sym, ap, _∙_}
 use mathlib.Core.Bool.{Bool, true, false}
 use mathlib.Core.List.{List}
 use borrow.Author.Tests.{lt-ltb, le-ltb}
-use lib.Dec.{ltb}
 use lib.ListN.{length}
 use Rattle.refusal.specs.declared.Refusal.{Refusal}
 use Rattle.refusal.specs.declared.Refusal.the-variants.{LabelHeld, TextTooLong, NoRoom, DamagedPool}
 use Rattle.text.specs.Faults.{refusalOf}
 use Rattle.text.specs.Statements.{Event, openings, givings}
 use Rattle.text.specs.Text.{Read, fine, refused, readText, tallied}
-use Rattle.text.specs.declared.Checked.{Checked}
 use Rattle.text.specs.declared.Checked.the-variants as C
 use Rattle.text.specs.declared.faults.Fault.{Fault}
 use Rattle.layout.specs.State.{flat, valuesOf}
@@ -21,8 +19,7 @@ use Rattle.layout.specs.Memory.{decode, put}
 use Rattle.layout.specs.Damage.{sound}
 use Rattle.pool.specs.Replies.{refusing}
 use Rattle.pool.specs.Load.{LONGEST, held, textOf, with, admitted, loadAnswer, loadReply, loadMemory, Loads}
-use Rattle.pool.specs.Writing.{Accepts}
-use Rattle.pool.specs.declared.reply.Reply.{Reply}
+use Rattle.pool.specs.Pens.{Accepts}
 use Rattle.pool.specs.declared.reply.Reply.the-variants.{Done, Refused}
 use Rattle.pool.proofs.Adding.{body-counted, body-valued}
 

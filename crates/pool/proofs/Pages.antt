@@ -1,6 +1,5 @@
 -- What events leave on a page: values given at once are values given one by one, and the pen keeps its room. Assumes nothing.
-use Prim.Native.Nat.{ℕ, zero, suc, _+_, _*_, _-_, _≤_, _<_}
-use native.Mathlib.Nat.{not-suc-le-zero, zero-add}
+use Prim.Native.Nat.{ℕ, zero, suc, _+_, _-_, _≤_, _<_}
 use native.Mathlib.Omega.{arith}
 use mathlib.Core.Path.{_≡_, refl, sym, ap, _∙_}
 use mathlib.Core.List.{List, [], _∷_, _++_, map}
@@ -13,10 +12,9 @@ use Rattle.text.specs.declared.statements.Operator.the-variants as O
 use Rattle.words.specs.Over.{over}
 use Rattle.words.specs.Halves.{HALF}
 use Rattle.words.proofs.Over.{over-nil, over-append, over-comm}
-use Rattle.layout.specs.Limits.{NAMEWORDS}
 use Rattle.layout.specs.Names.{wordAt, packed}
-use Rattle.pool.specs.Writing.{Page, page, bareHead, openedOn, bits, toldOn, givenOn, writtenOn, Room}
-use Rattle.pool.specs.declared.pen.Pen.{Pen}
+use Rattle.pool.specs.Writing.{Page, page, bareHead, openedOn, bits, toldOn, givenOn, writtenOn}
+use Rattle.pool.specs.Pens.{Room}
 
 -- ---- words
 

@@ -1,8 +1,8 @@
 -- A text is written a line at a time: what is left to write onto this page is what was to be written onto the first. Assumes nothing.
-use Prim.Native.Nat.{ℕ, _+_, _-_, _≤_, _<_}
+use Prim.Native.Nat.{ℕ, _+_, _-_, _≤_}
 use native.Mathlib.Omega.{arith}
 use mathlib.Core.Path.{_≡_, refl, sym, ap, subst, _∙_}
-use mathlib.Core.List.{List, [], _∷_, _++_}
+use mathlib.Core.List.{List, [], _++_}
 use lib.ListN.{length, take, drop, length-drop, drop-of-length-le}
 use lib.Seq.{length-take-le}
 use Rattle.text.specs.Lines.{lines, Cuts}
@@ -14,7 +14,8 @@ use Rattle.text.specs.declared.line.Reader.the-variants as R
 use Rattle.text.specs.declared.lines.Cut.{Cut}
 use Rattle.text.proofs.Events.{openings-append, givings-append}
 use Rattle.pool.specs.Load.{LONGEST, added}
-use Rattle.pool.specs.Writing.{Page, page, writtenOn, Room, Ready, Roomy, Admits, Turns}
+use Rattle.pool.specs.Writing.{Page, page, writtenOn}
+use Rattle.pool.specs.Pens.{Room, Roomy, Admits, Writes}
 use Rattle.pool.specs.declared.pen.Pen.{Pen}
 use Rattle.pool.specs.declared.pen.Turn.{Turn}
 use Rattle.pool.proofs.Pages.{written-append, written-room}
@@ -91,7 +92,7 @@ module _ (text : List ℕ) (final : Page) (long at : ℕ) (m : List ℕ) (pen : 
         }
 
     pub one-more : (m′ : List ℕ) (t : Turn) → length m′ ≡ length m
-        → ((s : Reader) (es : List Event) → answered r (take (c .end - at) (drop at text)) ≡ next s es → Turns (writtenOn es (page m pen)) s m′ t)
+        → Writes (answered r (take (c .end - at) (drop at text))) (page m pen) m′ t
         → Passes text final long (c .next) m′ (t .pen) (t .reader)
     unfolding readFrom
     one-more m′ t k w =

@@ -1,17 +1,15 @@
 -- There is room for a text more exactly when the totals leave it. Assumes nothing.
-use Prim.Native.Nat.{ℕ, _+_, _-_, _≤_, _<_}
+use Prim.Native.Nat.{ℕ, _+_, _-_, _≤_}
 use native.Mathlib.Omega.{arith}
-use mathlib.Core.Path.{_≡_, refl, sym, ap, _∙_}
-use mathlib.Core.Bool.{Bool, true, false}
-use mathlib.Core.List.{List, [], _∷_, _++_}
+use mathlib.Core.Path.{_≡_, sym, ap, _∙_}
+use mathlib.Core.Bool.{true, false}
+use mathlib.Core.List.{List, [], _∷_}
 use lib.ListN.{length, length-append}
-use Rattle.text.specs.Statements.{Statement}
 use Rattle.words.proofs.Tests.{is-false}
 use Rattle.layout.specs.State.{Text, Pool, program, flat, valuesOf, values}
 use Rattle.layout.specs.Limits.{TEXTS, STATEMENTS, VALUES, room}
 use Rattle.layout.specs.Memory.{textCount, statementCount, valueCount, decode}
 use Rattle.layout.specs.Damage.{sound}
-use Rattle.layout.proofs.Columns.{flat-append}
 use Rattle.layout.proofs.Holds.{length-decode, length-program, length-held}
 use Rattle.layout.proofs.Legal.{Fits, fits-of, of-fits, program-append, program-one, values-append}
 use Rattle.layout.proofs.Sound.{sound-of}

@@ -8,7 +8,6 @@ use lib.Ieee.{Float, binary64, toBits}
 use lib.ListN.{length}
 use Rattle.text.specs.Values.{item, Items, ended, further, itemsUpTo, items, tally}
 use Rattle.text.specs.declared.faults.Fault.{Fault}
-use Rattle.text.specs.declared.values.Counted.{Counted}
 use Rattle.text.specs.declared.values.Item.{Item}
 use Rattle.text.specs.declared.values.Item.the-variants as I
 use Rattle.text.specs.declared.values.Stop.{Stop}
@@ -16,7 +15,8 @@ use Rattle.text.specs.declared.values.Stop.the-variants as S
 use Rattle.text.proofs.Items.{withItems, none-yet}
 use Rattle.words.specs.Over.{over}
 use Rattle.words.proofs.Over.{over-nil, over-append, length-over}
-use Rattle.pool.specs.Writing.{bits, Stores}
+use Rattle.pool.specs.Writing.{bits}
+use Rattle.pool.specs.Pens.{Stores}
 
 -- ---- the items that are left, by the next one
 

@@ -5,6 +5,7 @@ pub mod Walk
 pub mod Empty
 pub mod Load
 pub mod Writing
+pub mod Pens
 pub mod Gaps
 pub mod Remove
 pub mod Fetch

@@ -12,20 +12,18 @@ use text::values::next_item;
 use text::values::read_value;
 use words::write::store;
 ghost use mathlib.Core.Path.{_≡_};
-ghost use mathlib.Core.List.{List};
 ghost use Prim.Native.Nat.{_≤_};
-ghost use lib.Ieee.{Float};
 ghost use lib.ListN.{length};
-ghost use Rattle.text.specs.Values.{given, listed, givenAt};
-ghost use Rattle.text.specs.declared.line.Reader.{Reader};
+ghost use Rattle.text.specs.Values.{listed, givenAt};
 ghost use Rattle.layout.specs.Limits.{WORDS};
 ghost use Rattle.pool.specs.Load.{LONGEST};
-ghost use Rattle.pool.specs.Writing.{page, givenOn, Ready, Stores, Turns, afterList};
+ghost use Rattle.pool.specs.Writing.{page};
+ghost use Rattle.pool.specs.Pens.{Ready, Stores, afterList, Gives};
 
 // The values that start at a place, after the operator: a list, or a number.
 pub fn give_values(m: &mut [u64], pen: Pen, line: &[u8], at: usize) -> Turn
     requires { ⌜ Ready pen (now line) ⌝ }
-    ensures { λ r. ⌜ ((s : Reader) (xs : List Float) → givenAt (now (line .entry)) at ≡ given s xs → Turns (givenOn xs (page (now (m .entry)) pen)) s (now (m .exit)) r) ⌝ }
+    ensures { λ r. ⌜ Gives (givenAt (now (line .entry)) at) (page (now (m .entry)) pen) (now (m .exit)) r ⌝ }
 {
     if classes::stands(b'(', line, at) {
         return give_list(m, pen, false, line, at + 1);
@@ -49,7 +47,7 @@ pub fn give_values(m: &mut [u64], pen: Pen, line: &[u8], at: usize) -> Turn
 // The values of a list that is open at a place, `filled` telling whether it has numbers on earlier lines.
 pub fn give_list(m: &mut [u64], pen: Pen, filled: bool, line: &[u8], at: usize) -> Turn
     requires { ⌜ Ready pen (now line) ⌝ }
-    ensures { λ r. ⌜ ((s : Reader) (xs : List Float) → listed filled (now (line .entry)) at ≡ given s xs → Turns (givenOn xs (page (now (m .entry)) pen)) s (now (m .exit)) r) ⌝ }
+    ensures { λ r. ⌜ Gives (listed filled (now (line .entry)) at) (page (now (m .entry)) pen) (now (m .exit)) r ⌝ }
 {
     let counted = store_items(m, pen.values, line, at);
     let count = counted.numbers;

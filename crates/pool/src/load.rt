@@ -27,7 +27,7 @@ ghost use Rattle.layout.specs.Limits.{room};
 ghost use Rattle.layout.specs.Memory.{decode, put};
 ghost use Rattle.layout.specs.Damage.{Sized, sound};
 ghost use Rattle.pool.specs.Load.{Loads, held, with, textOf};
-ghost use Rattle.pool.specs.Writing.{Accepts};
+ghost use Rattle.pool.specs.Pens.{Accepts};
 
 // The longest text, in bytes.
 const LONGEST: usize = 65536;
@@ -59,7 +59,7 @@ pub fn load(pool: &mut [u64], label: u32, text: &[u8]) -> Reply
 }
 
 // A text is held under the label.
-pub fn is_held(pool: &[u64], label: u32) -> bool
+fn is_held(pool: &[u64], label: u32) -> bool
     requires { ⌜ Sized (now pool) ⌝ }
     ensures { λ r. ⌜ r ≡ held label (decode (now (pool .entry))) ⌝ }
 {

@@ -13,7 +13,8 @@ ghost use Prim.Native.Nat.{_+_, _≤_};
 ghost use Rattle.words.specs.Over.{over};
 ghost use Rattle.layout.specs.Limits.{WORDS, STATEMENTS, VALUES};
 ghost use Rattle.layout.specs.Names.{packed};
-ghost use Rattle.pool.specs.Writing.{Opens, Tells, penBehind, bareHead, page, openedOn, toldOn};
+ghost use Rattle.pool.specs.Writing.{penBehind, bareHead, page, openedOn, toldOn};
+ghost use Rattle.pool.specs.Pens.{Opens, Tells};
 
 // The next free place of each area, and the head of the statement opened last.
 pub struct Pen {

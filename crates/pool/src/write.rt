@@ -11,13 +11,12 @@ use text::lines::cut_line;
 use text::statements::Head;
 use text::statements::read_head;
 ghost use mathlib.Core.Path.{_≡_};
-ghost use mathlib.Core.List.{List};
-ghost use Rattle.text.specs.Statements.{Event, head};
-ghost use Rattle.text.specs.Line.{next, stated, plain, answered};
+ghost use Rattle.text.specs.Statements.{head};
+ghost use Rattle.text.specs.Line.{stated, plain, answered};
 ghost use Rattle.text.specs.Text.{readText};
-ghost use Rattle.text.specs.declared.line.Reader.{Reader};
 ghost use Rattle.pool.specs.Load.{added};
-ghost use Rattle.pool.specs.Writing.{page, writtenOn, Roomy, Turns, Admits};
+ghost use Rattle.pool.specs.Writing.{page, writtenOn};
+ghost use Rattle.pool.specs.Pens.{Admits, Roomy, Writes};
 
 // All lines of an admitted text.
 pub fn write_text(m: &mut [u64], pen: Pen, text: &[u8]) -> Pen
@@ -43,7 +42,7 @@ pub fn write_text(m: &mut [u64], pen: Pen, text: &[u8]) -> Pen
 // A line of an admitted text.
 fn write_line(m: &mut [u64], pen: Pen, reader: Reader, line: &[u8]) -> Turn
     requires { ⌜ Roomy pen (now line) ⌝ }
-    ensures { λ r. ⌜ ((s : Reader) (es : List Event) → answered reader (now (line .entry)) ≡ next s es → Turns (writtenOn es (page (now (m .entry)) pen)) s (now (m .exit)) r) ⌝ }
+    ensures { λ r. ⌜ Writes (answered reader (now (line .entry))) (page (now (m .entry)) pen) (now (m .exit)) r ⌝ }
 {
     let mark = read_mark(line);
     match mark {
@@ -62,7 +61,7 @@ fn write_line(m: &mut [u64], pen: Pen, reader: Reader, line: &[u8]) -> Turn
 // A line that is no delimiter.
 fn write_plain(m: &mut [u64], pen: Pen, reader: Reader, line: &[u8]) -> Turn
     requires { ⌜ Roomy pen (now line) ⌝ }
-    ensures { λ r. ⌜ ((s : Reader) (es : List Event) → plain reader (now (line .entry)) ≡ next s es → Turns (writtenOn es (page (now (m .entry)) pen)) s (now (m .exit)) r) ⌝ }
+    ensures { λ r. ⌜ Writes (plain reader (now (line .entry))) (page (now (m .entry)) pen) (now (m .exit)) r ⌝ }
 {
     match reader {
         Reader::Text => Turn {
@@ -78,7 +77,7 @@ fn write_plain(m: &mut [u64], pen: Pen, reader: Reader, line: &[u8]) -> Turn
 // A data line outside a list: a statement, or blanks.
 fn write_statement(m: &mut [u64], pen: Pen, line: &[u8]) -> Turn
     requires { ⌜ Roomy pen (now line) ⌝ }
-    ensures { λ r. ⌜ ((s : Reader) (es : List Event) → stated (now (line .entry)) (head (now (line .entry))) ≡ next s es → Turns (writtenOn es (page (now (m .entry)) pen)) s (now (m .exit)) r) ⌝ }
+    ensures { λ r. ⌜ Writes (stated (now (line .entry)) (head (now (line .entry)))) (page (now (m .entry)) pen) (now (m .exit)) r ⌝ }
 {
     let head = read_head(line);
     match head {

@@ -1,18 +1,14 @@
 -- `load` meets its contract: each test in its order, and the accepted text put last. Assumes nothing.
-use Prim.Native.Nat.{ℕ, _≤_}
+use Prim.Native.Nat.{ℕ}
 use mathlib.Core.Path.{_≡_, sym, _∙_}
-use mathlib.Core.Bool.{Bool, true, false}
+use mathlib.Core.Bool.{true, false}
 use mathlib.Core.List.{List}
 use borrow.Author.Needs.{needs}
 use borrow.Author.Tests.{not-true, not-false}
-use lib.ListN.{length}
-use Rattle.text.specs.Text.{readText, tallied}
-use Rattle.text.specs.declared.Checked.the-variants as C
-use Rattle.layout.specs.Limits.{room}
 use Rattle.layout.specs.Memory.{decode}
 use Rattle.layout.specs.Damage.{sound}
 use Rattle.layout.proofs.Sound.{sound-of}
-use Rattle.pool.specs.Load.{held, textOf, with}
+use Rattle.pool.specs.Load.{held}
 use Rattle.pool.proofs.Loading.{statements-told, values-told, damaged, label-held, too-long, faulty, no-room, accepts, done}
 use Rattle.pool.proofs.load.load.Statement.{statement}
 use Rattle.pool.proofs.load.load.Tie as tie

@@ -1,5 +1,4 @@
 -- `tell` meets its contract: either way out is one case of `toldOn`. Assumes nothing.
-use mathlib.Core.Path.{sym}
 use borrow.Author.Needs.{needs}
 use borrow.Author.Tests.{eq-eqb, ne-eqb}
 use Rattle.pool.specs.Writing.{toldOn}

@@ -2,7 +2,7 @@
 use native.Mathlib.Omega.{arith}
 use mathlib.Core.Path.{sym, _∙_}
 use borrow.Author.Needs.{needs}
-use Rattle.pool.proofs.Heads.{head-named}
+use Rattle.pool.proofs.Heads.{head-stands}
 use Rattle.pool.proofs.Lines.{blank-next, no-head, opened-ready, nothing-turns, statement-turns}
 use Rattle.pool.proofs.write.write_statement.Statement.{statement}
 use Rattle.pool.proofs.write.write_statement.Tie as tie
@@ -18,17 +18,17 @@ enum-known-head c = search needs
 
 sub-open-statement : tie.Need-sub-open-statement
 sub-open-statement c =
-    let h = head-named _ _ _ _ _ (sym (c .before .before .before .before .read-head .ensures) ∙ c .before .before .head .given .1) in
+    let h = head-stands _ _ _ _ _ (sym (c .before .before .before .before .read-head .ensures) ∙ c .before .before .head .given .1) in
     omega (arith, h .starts)
 
 part-open-statement-start : tie.Need-part-open-statement-start
 part-open-statement-start c =
-    let h = head-named _ _ _ _ _ (sym (c .before .before .before .before .read-head .ensures) ∙ c .before .before .head .given .1) in
+    let h = head-stands _ _ _ _ _ (sym (c .before .before .before .before .read-head .ensures) ∙ c .before .before .head .given .1) in
     omega (arith, h .starts)
 
 part-open-statement-end : tie.Need-part-open-statement-end
 part-open-statement-end c =
-    let h = head-named _ _ _ _ _ (sym (c .before .before .before .before .read-head .ensures) ∙ c .before .before .head .given .1) in
+    let h = head-stands _ _ _ _ _ (sym (c .before .before .before .before .read-head .ensures) ∙ c .before .before .head .given .1) in
     omega (arith, h .ends)
 
 open-statement-requires : tie.Need-open-statement-requires
