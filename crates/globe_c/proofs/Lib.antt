@@ -1,0 +1,3 @@
+-- Laws about the C face.
+pub mod Unique
+pub mod Narrow

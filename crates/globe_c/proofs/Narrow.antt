@@ -1,0 +1,113 @@
+-- Thirty-two bits lose nothing: a line is one of a text of at most 65,536 bytes, a count is one of at most 3,072 held values.
+-- Assumes nothing.
+use mathlib.Core.Path.{_≡_, refl, sym, ap, _∙_}
+use mathlib.Core.Bool.{Bool, true, false, _&&_}
+use mathlib.Core.List.{List, [], _∷_, _++_}
+use Prim.Native.Nat.{ℕ, suc, _+_, _≤_, _<_}
+use native.Mathlib.Omega.{arith}
+use borrow.Author.Tests.{ltb-false}
+use lib.Dec.{eqb, ltb, leb}
+use lib.ListN.{length, length-append}
+use Rattle.plain.specs.Choice.{if_then_else_}
+use Rattle.plain.specs.Bytes.{LF, CR}
+use Rattle.text.specs.Lines.{lines, before, atLF}
+use Rattle.text.specs.Statements.{Statement}
+use Rattle.text.specs.Text.{Read, fine, refused, readText}
+use Rattle.text.proofs.FirstFault.{number-within}
+use Rattle.layout.specs.State.{Pool, program, flat, valuesOf, values}
+use Rattle.layout.specs.Limits.{TEXTS, STATEMENTS, VALUES, room}
+use Rattle.layout.specs.Memory.{decode}
+use Rattle.layout.specs.Damage.{sound}
+use Rattle.layout.proofs.Sound.{sound-of}
+use Rattle.layout.proofs.Holds.{decode-fits}
+use Rattle.refusal.specs.declared.Refusal.the-variants.{LabelHeld, TextTooLong, DamagedPool}
+use Rattle.pool.specs.Replies.{replyLine, refusing, fetchedCount, countsTexts, countsStatements, countsValues}
+use Rattle.pool.specs.Totals.{counts, totalsReply}
+use Rattle.pool.specs.declared.reply.Counts.the-variants as C
+use Rattle.pool.specs.Variables.{has, any, assigns, since, gives, variable, present}
+use Rattle.pool.specs.Load.{LONGEST, held, admitted, loadAnswer, loadReply, with, textOf}
+use Rattle.pool.specs.Fetch.{foundIn, fetched, fetchReply}
+use Rattle.pool.specs.declared.reply.Fetched.the-variants as F
+use Rattle.pool.specs.declared.variable.Found.the-variants as W
+
+-- ---- lines
+
+-- a text has no more lines than bytes
+lines-few : (bs : List ℕ) → length (lines bs) ≤ length bs
+unfolding lines
+lines-few [] = omega arith
+lines-few (b ∷ bs) = by (eqb b LF) (eqb b CR && atLF bs) (lines bs) (lines-few bs)
+  where
+    by : (x y : Bool) (ls : List (List ℕ)) → length ls ≤ length bs
+        → length (if x then [] ∷ ls else (if y then ls else before b ls)) ≤ length (b ∷ bs)
+    by true y ls h = omega arith
+    by false true ls h = omega arith
+    by false false [] h = omega arith
+    by false false (l ∷ ls) h = omega arith
+
+line-admitted : (bytes : List ℕ) (r : Read) (roomy : Bool) → readText bytes ≡ r → length bytes ≤ LONGEST → replyLine (admitted r roomy) ≤ LONGEST
+line-admitted bytes (fine es) true e h = omega arith
+line-admitted bytes (fine es) false e h = omega arith
+line-admitted bytes (refused q line place) roomy e h = omega (arith, number-within bytes q line place e .1, lines-few bytes)
+
+pub line-few : (label : ℕ) (bytes m : List ℕ) → replyLine (loadReply label bytes m) ≤ LONGEST
+unfolding loadReply loadAnswer
+line-few label bytes m = by (sound m) (held label (decode m)) (ltb LONGEST (length bytes)) refl
+  where
+    by : (x y z : Bool) → ltb LONGEST (length bytes) ≡ z
+        → replyLine (if x then (if y then refusing LabelHeld else (if z then refusing TextTooLong else admitted (readText bytes) (room (with (decode m) (textOf label bytes))))) else refusing DamagedPool) ≤ LONGEST
+    by true true z e = omega arith
+    by true false true e = omega arith
+    by true false false e = line-admitted bytes (readText bytes) (room (with (decode m) (textOf label bytes))) refl (ltb-false LONGEST (length bytes) e)
+    by false y z e = omega arith
+
+-- ---- counts
+
+-- a variable has no more values than its statements give
+gives-few : (name : List ℕ) (ss : List Statement) → length (flat (gives name) ss) ≤ length (flat valuesOf ss)
+unfolding flat
+gives-few name [] = omega arith
+gives-few name (s ∷ ss) = by (has name s) (gives-few name ss)
+  where
+    by : (x : Bool) → length (flat (gives name) ss) ≤ length (flat valuesOf ss)
+        → length ((if x then s .values else []) ++ flat (gives name) ss) ≤ length (s .values ++ flat valuesOf ss)
+    by true h = omega (arith, length-append (s .values) (flat (gives name) ss), length-append (s .values) (flat valuesOf ss))
+    by false h = omega (arith, length-append (s .values) (flat valuesOf ss))
+
+since-few : (name : List ℕ) (ss : List Statement) → length (flat (gives name) (since name ss)) ≤ length (flat (gives name) ss)
+unfolding since flat
+since-few name [] = omega arith
+since-few name (s ∷ ss) = by (any (assigns name) ss) (since-few name ss)
+  where
+    by : (x : Bool) → length (flat (gives name) (since name ss)) ≤ length (flat (gives name) ss)
+        → length (flat (gives name) (if x then since name ss else (s ∷ ss))) ≤ length (gives name s ++ flat (gives name) ss)
+    by true h = omega (arith, length-append (gives name s) (flat (gives name) ss))
+    by false h = omega arith
+
+variable-few : (name : List ℕ) (s : Pool) → length (variable name s) ≤ length (values s)
+unfolding variable
+variable-few name s = omega (arith, since-few name (program s), gives-few name (program s))
+
+pub count-few : (name : List ℕ) (room : ℕ) (m : List ℕ) → fetchedCount (fetchReply name room m) ≤ VALUES
+unfolding fetchReply foundIn
+count-few name room m = by (sound m) (present name (decode m)) (leb (length (variable name (decode m))) room) refl
+  where
+    by : (x y z : Bool) → sound m ≡ x
+        → fetchedCount (if x then fetched (if y then (if z then W.Count (length (variable name (decode m))) else W.TooMany) else W.Absent) else F.Refused DamagedPool) ≤ VALUES
+    by true true true e = omega (arith, variable-few name (decode m), decode-fits m (sound-of m e) .values)
+    by true true false e = omega arith
+    by true false z e = omega arith
+    by false y z e = omega arith
+
+pub totals-few :
+    (m : List ℕ)
+    → (countsTexts (totalsReply m) ≤ TEXTS) × (countsStatements (totalsReply m) ≤ STATEMENTS) × (countsValues (totalsReply m) ≤ VALUES)
+unfolding totalsReply
+totals-few m = by (sound m) refl
+  where
+    by : (x : Bool) → sound m ≡ x
+        → (countsTexts (if x then counts (decode m) else C.Refused DamagedPool) ≤ TEXTS)
+        × (countsStatements (if x then counts (decode m) else C.Refused DamagedPool) ≤ STATEMENTS)
+        × (countsValues (if x then counts (decode m) else C.Refused DamagedPool) ≤ VALUES)
+    by true e = let f = decode-fits m (sound-of m e) in (f .texts, f .statements, f .values)
+    by false e = (omega arith, omega arith, omega arith)
