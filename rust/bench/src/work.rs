@@ -63,7 +63,7 @@ impl Work<'_> {
 
 /// All rows, in the order of the table.
 pub fn measured() -> Vec<Row> {
-    let mut rows = vec![loaded("load a kernel", 0, &kernel())];
+    let mut rows = vec![loaded("load a kernel", 0, &kernel()), read_once()];
     rows.extend(HELD.map(|texts| loaded("load a system", texts - 1, &system(texts - 1))));
     for measure in [removed, cleared, fetched, counted, oriented, sized] {
         rows.extend(HELD.map(measure));
@@ -94,6 +94,21 @@ fn loaded(call: &'static str, held: u32, text: &str) -> Row {
         twin: &mut |words| assert_eq!(pool::load(words, held, black_box(text)), Ok(())),
     }
     .on(&pool_of(held), Some(held + 1), Some(text.len()))
+}
+
+/// A kernel that is refused at its last line is read to its end, and nothing of it is written: what
+/// a load takes for its first pass.
+fn read_once() -> Row {
+    let text = kernel() + "\\begindata\nX = ( )\n";
+    let text = text.as_bytes();
+    Work {
+        call: "first pass of a kernel",
+        goal: LOAD_GOAL,
+        restore: Restore::Nothing,
+        library: &mut |words| assert_eq!(library::load(words, 0, black_box(text)), 5),
+        twin: &mut |words| assert!(pool::load(words, 0, black_box(text)).is_err()),
+    }
+    .on(&pool_of(0), Some(0), Some(text.len()))
 }
 
 fn removed(texts: u32) -> Row {
