@@ -1,0 +1,131 @@
+-- What the calls leave and answer is what the listing is made of: an empty pool into which the text is loaded. Assumes nothing.
+use mathlib.Core.Path.{_≡_, refl, sym, ap, ap₂, subst, _∙_}
+use mathlib.Core.Bool.{Bool, true, false}
+use mathlib.Core.List.{List, [], _∷_, _++_}
+use Prim.Native.Nat.{ℕ, _+_, _≤_}
+use native.Mathlib.Nat.{zero-add}
+use native.Mathlib.Omega.{arith}
+use borrow.Author.Tests.{eq-eqb}
+use lib.ListN.{length, replicate, length-replicate}
+use Rattle.plain.specs.Bytes.{SPACE}
+use Rattle.plain.specs.Choice.{if_then_else_}
+use Rattle.refusal.specs.Numbers.{numberOf}
+use Rattle.refusal.specs.declared.Refusal.{Refusal}
+use Rattle.refusal.specs.declared.Refusal.the-variants.{DamagedPool}
+use Rattle.words.specs.Over.{over}
+use Rattle.words.proofs.Over.{length-over}
+use Rattle.layout.specs.State.{Pool}
+use Rattle.layout.specs.Limits.{WORDS}
+use Rattle.layout.specs.Memory.{decode}
+use Rattle.layout.specs.Damage.{sized, sound}
+use Rattle.layout.proofs.Sound.{sound-of}
+use Rattle.pool.specs.Replies.{done, refusing}
+use Rattle.pool.specs.Empty.{emptyReply, emptied, Empties}
+use Rattle.pool.specs.Load.{textOf, with, loadAnswer, loadReply, loadMemory, Loads}
+use Rattle.pool.specs.declared.reply.Reply.{Reply}
+use Rattle.pool.specs.declared.reply.Reply.the-variants.{Done, Refused}
+use Rattle.pool.proofs.Emptying.{empty-sound, empty-decode}
+use Rattle.pool.proofs.Loaded.{load-sound, load-decode}
+use Rattle.listing.specs.Listing.{LABEL, LINE, REFUSED, entry, loaded, shown, told, listing}
+use Rattle.listing.specs.Pen.{phrase, Room, Writes}
+use Rattle.listing.specs.Shows.{Showing}
+use Rattle.listing.specs.Lists.{SIZE, Lists}
+use Rattle.listing.proofs.Longest.{shown-fits, refusal-fits}
+
+-- ---- the calls
+
+module _ (text first empty memory : List ℕ) (made reply : Reply) (n : WORDS ≡ length first) (E : Empties first made empty) (L : Loads LABEL text empty reply memory) where
+  whole : sized first ≡ true
+  whole = eq-eqb (length first) WORDS (sym n)
+
+  empty-whole : sound empty ≡ true
+  empty-whole = ap sound (E .memory) ∙ empty-sound first whole
+
+  nothing : decode empty ≡ []
+  nothing = ap decode (E .memory) ∙ empty-decode first whole
+
+  undamaged : sound memory ≡ true
+  undamaged = ap sound (L .memory) ∙ load-sound LABEL text empty empty-whole
+
+  answered : reply ≡ loadAnswer LABEL text []
+  unfolding loadReply
+  answered =
+      L .reply
+      ∙ ap (λ (t : Bool). if t then loadAnswer LABEL text (decode empty) else refusing DamagedPool) empty-whole
+      ∙ ap (loadAnswer LABEL text) nothing
+
+  held : reply ≡ Done → decode memory ≡ loaded text
+  held d =
+      ap decode (L .memory)
+      ∙ load-decode LABEL text empty empty-whole
+      ∙ ap₂ (λ (r : Reply) (s : Pool). if done r then with s (textOf LABEL text) else s) (sym (L .reply) ∙ d) nothing
+
+  -- ---- an accepted text is shown
+
+  module _ (d : reply ≡ Done) where
+    is-shown : shown (decode memory) ≡ listing text
+    unfolding listing
+    is-shown = ap shown (held d) ∙ ap (λ (r : Reply). told r (loaded text)) (sym d ∙ answered)
+
+    pub showing : (out : List ℕ) → length out ≡ SIZE → Showing memory out
+    showing out l = record { whole = undamaged; room = record { fits = omega (arith, shown-fits memory (sound-of memory undamaged)) } }
+
+    pub lists-shown : (out : List ℕ) (r : ℕ) (after : List ℕ) → Writes 0 (shown (decode memory)) out r after → Lists text out r after
+    lists-shown out r after w =
+        record {
+          size = w .next ∙ zero-add (length (shown (decode memory))) ∙ ap length is-shown;
+          output = w .output ∙ ap (λ (l : List ℕ). over 0 l out) is-shown;
+        }
+
+  -- ---- and another is refused
+
+  module _ (q : Refusal) (line : ℕ) (d : reply ≡ Refused q line) (number : ℕ) (e : number ≡ numberOf q) where
+    is-refused : phrase REFUSED number ++ (SPACE ∷ entry LINE line) ≡ listing text
+    unfolding listing
+    is-refused =
+        ap (λ (n : ℕ). phrase REFUSED n ++ (SPACE ∷ entry LINE line)) e ∙ ap (λ (r : Reply). told r (loaded text)) (sym d ∙ answered)
+
+    pub lists-refused : (out : List ℕ) (r : ℕ) (after : List ℕ) → Writes 0 (phrase REFUSED number ++ (SPACE ∷ entry LINE line)) out r after → Lists text out r after
+    lists-refused out r after w =
+        record {
+          size = w .next ∙ zero-add (length (phrase REFUSED number ++ (SPACE ∷ entry LINE line))) ∙ ap length is-refused;
+          output = w .output ∙ ap (λ (l : List ℕ). over 0 l out) is-refused;
+        }
+
+pub room-refusal : (number line : ℕ) (out : List ℕ) → length out ≡ SIZE → Room 0 (phrase REFUSED number ++ (SPACE ∷ entry LINE line)) out
+room-refusal number line out l = record { fits = omega (arith, refusal-fits number line) }
+
+-- ---- so every listing has room
+
+pub listing-fits : (text : List ℕ) → length (listing text) ≤ SIZE
+listing-fits text = by (loadReply LABEL text empty) refl
+  where
+    first : List ℕ
+    first = replicate WORDS 0
+
+    empty : List ℕ
+    empty = emptied (emptyReply first) first
+
+    memory : List ℕ
+    memory = loadMemory LABEL text empty
+
+    n : WORDS ≡ length first
+    n = sym (length-replicate {A = ℕ} WORDS 0)
+
+    E : Empties first (emptyReply first) empty
+    E = record { reply = refl; memory = refl }
+
+    L : Loads LABEL text empty (loadReply LABEL text empty) memory
+    L = record { reply = refl; memory = refl }
+
+    by : (r : Reply) → loadReply LABEL text empty ≡ r → length (listing text) ≤ SIZE
+    by Done d =
+        subst (λ (l : List ℕ). length l ≤ SIZE) (is-shown text first empty memory _ _ n E L d)
+        (shown-fits memory (sound-of memory (undamaged text first empty memory _ _ n E L)))
+    by (Refused q line) d =
+        subst (λ (l : List ℕ). length l ≤ SIZE) (is-refused text first empty memory _ _ n E L q line d (numberOf q) refl) (refusal-fits (numberOf q) line)
+
+-- and what is answered is in the output
+pub within-output : {text before : List ℕ} {r : ℕ} {after : List ℕ} → Lists text before r after → SIZE ≡ length before → r ≤ length after
+within-output {text} {before} l n =
+    omega (arith, l .size, listing-fits text, ap length (l .output), length-over 0 (listing text) before)

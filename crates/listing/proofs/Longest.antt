@@ -1,0 +1,82 @@
+-- No listing is longer than the room for it. Assumes nothing.
+use mathlib.Core.Path.{_≡_, refl, sym, ap, _∙_}
+use mathlib.Core.List.{List, [], _∷_, _++_}
+use Prim.Native.Nat.{ℕ, zero, suc, _+_, _*_, _/_, _%_, _≤_}
+use native.Mathlib.Omega.{arith}
+use lib.ListN.{length, length-append}
+use Rattle.plain.specs.Bytes.{LF, SPACE}
+use Rattle.text.specs.Statements.{NAME}
+use Rattle.words.proofs.Each.{Each, each-weaken}
+use Rattle.layout.specs.State.{Pool, program, flat}
+use Rattle.layout.specs.Memory.{decode}
+use Rattle.layout.proofs.Sound.{Sound}
+use Rattle.layout.proofs.Legal.{Fair}
+use Rattle.layout.proofs.Names.{legible-of}
+use Rattle.layout.proofs.Holds.{decode-legal, decode-fits}
+use Rattle.pool.specs.Variables.{variable}
+use Rattle.pool.specs.declared.reply.Reply.{Reply}
+use Rattle.print.specs.Digits.{digitOf, digits}
+use Rattle.listing.specs.Figures.{decimal, bits}
+use Rattle.listing.specs.Listing.{VARIABLES, VALUES, LINE, REFUSED, entry, namesIn, valuesOf, counts, bitLines, shown}
+use Rattle.listing.specs.Pen.{phrase}
+use Rattle.listing.specs.Lists.{SIZE}
+use Rattle.listing.proofs.Decimals.{length-decimalUpTo}
+use Rattle.listing.proofs.Rising.{each-names, length-names}
+use Rattle.listing.proofs.Together.{values-few}
+
+-- a line of a word and a number: a space, at most twenty figures, and its end
+length-entry : (word : List ℕ) (n : ℕ) → length (entry word n) ≤ length word + 22
+length-entry word n =
+    omega (arith, length-append word (SPACE ∷ decimal n ++ (LF ∷ [])), length-append (decimal n) (LF ∷ []), length-decimalUpTo 20 n)
+
+length-digits : (k n : ℕ) → length (digits k n) ≡ k
+unfolding digits
+length-digits zero n = refl
+length-digits (suc k) n = omega (arith, length-append (digits k (n / 16)) (digitOf (n % 16) ∷ []), length-digits k (n / 16))
+
+length-bitLines : (ws : List ℕ) → length (bitLines ws) ≡ 17 * length ws
+unfolding bitLines flat
+length-bitLines [] = refl
+length-bitLines (w ∷ ws) =
+    omega
+    (arith, length-append (bits w ++ (LF ∷ [])) (flat (λ w. bits w ++ (LF ∷ [])) ws), length-append (bits w) (LF ∷ []), length-digits 16 w, length-bitLines ws)
+
+length-counts : (s : Pool) (ns : List (List ℕ)) → Each (λ n. length n ≤ NAME) ns → length (counts s ns) ≤ 54 * length ns
+unfolding counts flat
+length-counts s [] f = omega arith
+length-counts s (n ∷ ns) f =
+    let e = length-append (entry n (length (variable n s))) (flat (λ n. entry n (length (variable n s))) ns) in
+    let l = length-entry n (length (variable n s)) in
+    let r = length-counts s ns (f .1) in
+    let k = f .0 in
+    omega arith
+
+pub shown-fits : (m : List ℕ) → Sound m → length (shown (decode m)) ≤ SIZE
+unfolding shown
+shown-fits m S =
+    let s = decode m in
+    let ns = namesIn s in
+    let vs = valuesOf s ns in
+    let names : Each (λ n. length n ≤ NAME) ns =
+    each-names (λ n. length n ≤ NAME) (program s) (each-weaken Fair (λ x. length (x .name) ≤ NAME) (λ x f. legible-of (x .name) (f .name) .few) (program s) (decode-legal m S .statements)) in
+    let a = length-append (entry VARIABLES (length ns)) (counts s ns ++ (entry VALUES (length vs) ++ bitLines vs)) in
+    let b = length-append (counts s ns) (entry VALUES (length vs) ++ bitLines vs) in
+    let c = length-append (entry VALUES (length vs)) (bitLines vs) in
+    let d = length-entry VARIABLES (length ns) in
+    let e = length-entry VALUES (length vs) in
+    let f = length-counts s ns names in
+    let g = length-bitLines vs in
+    let h = length-names (program s) in
+    let i = values-few s in
+    let j = decode-fits m S in
+    omega (arith, a, b, c, d, e, f, g, h, i, j .statements, j .values)
+
+pub refusal-fits : (number line : ℕ) → length (phrase REFUSED number ++ (SPACE ∷ entry LINE line)) ≤ SIZE
+refusal-fits number line =
+    omega (
+      arith,
+      length-append (phrase REFUSED number) (SPACE ∷ entry LINE line),
+      length-append REFUSED (SPACE ∷ decimal number),
+      length-decimalUpTo 20 number,
+      length-entry LINE line,
+    )

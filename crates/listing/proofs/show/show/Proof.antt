@@ -1,0 +1,133 @@
+-- `show` meets its contract: the parts of what is shown are written one after the other. Assumes nothing.
+use borrow.Author.Needs.{needs}
+use Rattle.listing.proofs.Showing.{sized, ordering, room-heading, counting, room-total, total-few, total-taken, printing, all-shown}
+use Rattle.listing.proofs.show.show.Statement.{statement}
+use Rattle.listing.proofs.show.show.Tie as tie
+
+no-places-requires : tie.Need-no-places-requires
+no-places-requires c κs = search needs
+
+names-of-requires : tie.Need-names-of-requires
+names-of-requires c κs = sized _ _ (c .before .before .before .pre)
+
+slice-aggregate-order : tie.Need-slice-aggregate-order
+slice-aggregate-order c = search needs
+
+order-requires : tie.Need-order-requires
+order-requires c κs =
+    let n = c .before in
+    let p = n .before in
+    let s = p .before .before .before in
+    ordering _ _ (s .pre) _ _ (n .names-of .ensures) (p .no-places .ensures)
+
+no-values-requires : tie.Need-no-values-requires
+no-values-requires c κs = search needs
+
+slice-aggregate-write-entry : tie.Need-slice-aggregate-write-entry
+slice-aggregate-write-entry c = search needs
+
+write-entry-requires : tie.Need-write-entry-requires
+write-entry-requires c κs =
+    let v = c .before .before in
+    let o = v .before .before in
+    let n = o .before .before in
+    let s = n .before .before .before .before in
+    room-heading _ _ (s .pre) _ _ (n .names-of .ensures) _ _ (o .order .ensures)
+
+slice-aggregate-show-counts : tie.Need-slice-aggregate-show-counts
+slice-aggregate-show-counts c = search needs
+
+slice-aggregate-show-counts-2 : tie.Need-slice-aggregate-show-counts-2
+slice-aggregate-show-counts-2 c = search needs
+
+show-counts-requires : tie.Need-show-counts-requires
+show-counts-requires c κs =
+    let w = c .before .before .before .before .before in
+    let v = w .before .before .before in
+    let o = v .before .before in
+    let n = o .before .before in
+    let s = n .before .before .before .before in
+    counting _ _ (s .pre) _ _ (n .names-of .ensures) _ _ (o .order .ensures) _ _ (w .write-entry .ensures) _ (v .no-values .ensures)
+
+slice-aggregate-write-entry-2 : tie.Need-slice-aggregate-write-entry-2
+slice-aggregate-write-entry-2 c = search needs
+
+write-entry-requires-2 : tie.Need-write-entry-requires-2
+write-entry-requires-2 c κs =
+    let k = c .before .before .before .before .before in
+    let w = k .before .before .before .before .before .before in
+    let v = w .before .before .before in
+    let o = v .before .before in
+    let n = o .before .before in
+    let s = n .before .before .before .before in
+    room-total _ _ (s .pre) _ _ (n .names-of .ensures) _ _ (o .order .ensures) _ _ (w .write-entry .ensures) _ (v .no-values .ensures) _ _ _ (k .show-counts .ensures)
+
+array-share-prefix-values : tie.Need-array-share-prefix-values
+array-share-prefix-values c =
+    let k = c .before .before .before .before .before .before .before .before .before in
+    let w = k .before .before .before .before .before .before in
+    let v = w .before .before .before in
+    let o = v .before .before in
+    let n = o .before .before in
+    let s = n .before .before .before .before in
+    total-few _ _ (s .pre) _ _ (n .names-of .ensures) _ _ (o .order .ensures) _ _ (w .write-entry .ensures) _ (v .no-values .ensures) _ _ _ (k .show-counts .ensures)
+
+slice-aggregate-write-values : tie.Need-slice-aggregate-write-values
+slice-aggregate-write-values c =
+    let k = c .before .before .before .before .before .before .before .before .before .before in
+    let w = k .before .before .before .before .before .before in
+    let v = w .before .before .before in
+    let o = v .before .before in
+    let n = o .before .before in
+    let s = n .before .before .before .before in
+    total-taken _ _ (s .pre) _ _ (n .names-of .ensures) _ _ (o .order .ensures) _ _ (w .write-entry .ensures) _ (v .no-values .ensures) _ _ _ (k .show-counts .ensures)
+
+write-values-requires : tie.Need-write-values-requires
+write-values-requires c κs =
+    let t = c .before .before .before .before in
+    let k = t .before .before .before .before .before .before in
+    let w = k .before .before .before .before .before .before in
+    let v = w .before .before .before in
+    let o = v .before .before in
+    let n = o .before .before in
+    let s = n .before .before .before .before in
+    printing _ _ (s .pre) _ _ (n .names-of .ensures) _ _ (o .order .ensures) _ _ (w .write-entry .ensures) _ (v .no-values .ensures) _ _ _ (k .show-counts .ensures)
+    (n .before .before .before .shared-slice-known .given) _ _ (t .write-entry2 .ensures)
+
+same-length : tie.Need-same-length
+same-length c = search needs
+
+returns : tie.Need-returns
+returns c =
+    let u = c .before .before in
+    let t = u .before .before .before .before .before in
+    let k = t .before .before .before .before .before .before in
+    let w = k .before .before .before .before .before .before in
+    let v = w .before .before .before in
+    let o = v .before .before in
+    let n = o .before .before in
+    let s = n .before .before .before .before in
+    all-shown _ _ (s .pre) _ _ (n .names-of .ensures) _ _ (o .order .ensures) _ _ (w .write-entry .ensures) _ (v .no-values .ensures) _ _ _ (k .show-counts .ensures)
+    (n .before .before .before .shared-slice-known .given) _ _ (t .write-entry2 .ensures) _ _ (u .write-values .ensures)
+
+pub show-spec : {M : Type 1} → statement M
+show-spec =
+    tie.close
+    (tie.spec
+    no-places-requires
+    names-of-requires
+    slice-aggregate-order
+    order-requires
+    no-values-requires
+    slice-aggregate-write-entry
+    write-entry-requires
+    slice-aggregate-show-counts
+    slice-aggregate-show-counts-2
+    show-counts-requires
+    slice-aggregate-write-entry-2
+    write-entry-requires-2
+    array-share-prefix-values
+    slice-aggregate-write-values
+    write-values-requires
+    same-length
+    returns)

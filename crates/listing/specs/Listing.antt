@@ -1,0 +1,71 @@
+-- "Loads it into an empty pool and prints the variables in byte order of names, each with its count, then how many values these
+-- variables have together and the bits of each, in the same order. Refused, it prints `refused N line L`." Definitions only.
+use Prim.Native.Nat.{ℕ, _+_}
+use mathlib.Core.List.{List, [], _∷_, _++_}
+use lib.ListN.{length}
+use Rattle.plain.specs.Bytes.{LF, SPACE}
+use Rattle.layout.specs.State.{Pool, program, flat}
+use Rattle.pool.specs.Replies.{replyNumber, replyLine}
+use Rattle.pool.specs.Variables.{variable}
+use Rattle.pool.specs.Load.{textOf, with, loadAnswer}
+use Rattle.pool.specs.declared.reply.Reply.{Reply}
+use Rattle.pool.specs.declared.reply.Reply.the-variants.{Done, Refused}
+use Rattle.listing.specs.Order.{names}
+use Rattle.listing.specs.Figures.{decimal, bits}
+
+-- variables, values, refused, line
+abbrev pub VARIABLES : List ℕ
+VARIABLES = 118 ∷ 97 ∷ 114 ∷ 105 ∷ 97 ∷ 98 ∷ 108 ∷ 101 ∷ 115 ∷ []
+
+abbrev pub VALUES : List ℕ
+VALUES = 118 ∷ 97 ∷ 108 ∷ 117 ∷ 101 ∷ 115 ∷ []
+
+abbrev pub REFUSED : List ℕ
+REFUSED = 114 ∷ 101 ∷ 102 ∷ 117 ∷ 115 ∷ 101 ∷ 100 ∷ []
+
+abbrev pub LINE : List ℕ
+LINE = 108 ∷ 105 ∷ 110 ∷ 101 ∷ []
+
+-- a word and a number on a line
+abbrev pub entry : List ℕ → ℕ → List ℕ
+entry word n = word ++ (SPACE ∷ decimal n ++ (LF ∷ []))
+
+-- the label under which the text is loaded
+abbrev pub LABEL : ℕ
+LABEL = 0
+
+-- the state after the load
+abbrev pub loaded : List ℕ → Pool
+loaded text = with [] (textOf LABEL text)
+
+abbrev pub namesIn : Pool → List (List ℕ)
+namesIn s = names (program s)
+
+-- all values of the variables, variable by variable
+unfoldable pub valuesOf : Pool → List (List ℕ) → List ℕ
+valuesOf s ns = flat (λ n. variable n s) ns
+
+unfoldable pub counts : Pool → List (List ℕ) → List ℕ
+counts s ns = flat (λ n. entry n (length (variable n s))) ns
+
+unfoldable pub bitLines : List ℕ → List ℕ
+bitLines ws = flat (λ w. bits w ++ (LF ∷ [])) ws
+
+unfoldable pub shown : Pool → List ℕ
+unfolding valuesOf counts bitLines
+shown s =
+    entry VARIABLES (length (namesIn s))
+    ++ (counts s (namesIn s)
+    ++ (entry VALUES (length (valuesOf s (namesIn s))) ++ bitLines (valuesOf s (namesIn s))))
+
+abbrev pub refusal : Reply → List ℕ
+refusal r = REFUSED ++ (SPACE ∷ decimal (replyNumber r) ++ (SPACE ∷ entry LINE (replyLine r)))
+
+abbrev pub told : Reply → Pool → List ℕ
+told Done s = shown s
+told (Refused q line) s = refusal (Refused q line)
+
+-- what the program prints for a text
+unfoldable pub listing : List ℕ → List ℕ
+unfolding shown
+listing text = told (loadAnswer LABEL text []) (loaded text)

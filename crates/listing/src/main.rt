@@ -1,0 +1,34 @@
+// The listing of the text on standard input, on standard output: document 01, "The listing".
+mod list;
+mod names;
+mod order;
+mod pen;
+mod show;
+
+use libc::STDIN_FILENO;
+use list::list;
+ghost use mathlib.Core.Path.{_≡_};
+ghost use lib.ListN.{length};
+ghost use Rattle.listing.specs.Lists.{SIZE};
+
+fn main() {
+    let mut room = text_room();
+    let count = io::read_full(STDIN_FILENO, &mut room);
+    let mut out = listing_room();
+    let end = list(&room[..count], &mut out);
+    print::bytes(&out[..end]);
+}
+
+// Room for one byte more than the longest text has, so that a longer input is refused and never cut.
+fn text_room() -> [u8; 65537]
+    ensures { λ r. ⌜ 65537 ≡ length r ⌝ }
+{
+    [0; 65537]
+}
+
+// Room for every listing.
+fn listing_room() -> [u8; 79931]
+    ensures { λ r. ⌜ SIZE ≡ length r ⌝ }
+{
+    [0; 79931]
+}
