@@ -11,18 +11,15 @@ use lib.Ieee.{Float, nan}
 use Rattle.plain.specs.Doubles.{_⊖_, _⊗_}
 use Rattle.plain.proofs.Bounded.{Under, finite-under, weaken-under, neg-under, ⊕-under, ⊖-under, ⊗-under}
 use Rattle.angle.specs.Wrap.{wrapped}
-use Rattle.angle.specs.declared.sine.SineCosine.{SineCosine}
-use Rattle.angle.proofs.Sizes.{wrapped-under, UnderBoth, sine-cosine-under}
+use Rattle.angle.proofs.Sizes.{wrapped-under, sine-cosine-under}
 use Rattle.rotation.specs.Epochs.{days, centuries, inReach}
-use Rattle.rotation.specs.Elements.{byCentury, part, nutated}
+use Rattle.rotation.specs.Elements.{byCentury, cosine, nutated, nutatedAll}
 use Rattle.rotation.specs.Matrix.{oriented}
 use Rattle.rotation.specs.Evaluation.{evaluated}
 use Rattle.rotation.specs.Finite.{Finite, SmallPolynomial, SmallCoefficients}
 use Rattle.rotation.specs.declared.epoch.Centuries.{Centuries}
 use Rattle.rotation.specs.declared.elements.Polynomial.{Polynomial}
 use Rattle.rotation.specs.declared.elements.Elements.{Elements}
-use Rattle.rotation.specs.declared.nutation.Wave.{Wave}
-use Rattle.rotation.specs.declared.nutation.Wave.the-variants as W
 use Rattle.rotation.proofs.Reach.{centuries-under}
 
 -- ---- the record
@@ -63,24 +60,20 @@ polynomial-under p t T a b c =
     let x = ⊕-under {j = 241} (lit≤ tt) (weaken-under 241 (lit≤ tt) b) (⊗-under {j = 40} {k = 200} (lit≤ tt) T c) in
     weaken-under 434 (lit≤ tt) (⊕-under {j = 284} (lit≤ tt) (weaken-under 284 (lit≤ tt) a) (⊗-under {j = 40} {k = 243} (lit≤ tt) T x))
 
-part-under : (wave : Wave) (p : SineCosine) → UnderBoth p → Under 233 (part wave p)
-part-under W.Sine p P = P .sine
-part-under W.Cosine p P = P .cosine
-
 -- a term adds 2 to the exponent at most
-nutated-under : (wave : Wave) (t : Centuries) (angles cs : List Float) (start : Float) (n : ℕ) → n ≤ 32
-    → ((i : ℕ) → i < n → Under 200 (getD cs i nan)) → Under 434 start → Under (434 + 2 * n) (nutated wave t angles cs start n)
+nutated-under : (t : Centuries) (angles cs : List Float) (start : Float) (n : ℕ) → n ≤ 32
+    → ((i : ℕ) → i < n → Under 200 (getD cs i nan)) → Under 434 start → Under (434 + 2 * n) (nutated cosine t angles cs start n)
 unfolding nutated
-nutated-under wave t angles cs start zero N C S = S
-nutated-under wave t angles cs start (suc n) N C S =
-    let x = nutated-under wave t angles cs start n (omega arith) (λ i h. C i (omega arith)) S in
-    let y = ⊗-under {j = 200} {k = 233} (lit≤ tt) (C n (omega arith)) (part-under wave _ (sine-cosine-under _)) in
+nutated-under t angles cs start zero N C S = S
+nutated-under t angles cs start (suc n) N C S =
+    let x = nutated-under t angles cs start n (omega arith) (λ i h. C i (omega arith)) S in
+    let y = ⊗-under {j = 200} {k = 233} (lit≤ tt) (C n (omega arith)) (sine-cosine-under _ .cosine) in
     weaken-under (434 + 2 * suc n) (omega arith) (⊕-under {j = 434 + 2 * n} (omega arith) x (weaken-under (434 + 2 * n) (omega arith) y))
 
 pub evaluated-finite : (e : Elements) (epoch : Float) (angles ra dec pm : List Float)
     → inReach epoch ≡ true → SmallPolynomial (e .dec) → SmallCoefficients dec → Finite (evaluated e epoch angles ra dec pm)
-unfolding evaluated
+unfolding evaluated nutatedAll
 evaluated-finite e epoch angles ra dec pm h p cs =
     let t = centuries (days epoch) in
     let start = polynomial-under (e .dec) t (centuries-under epoch h) (record { is = p .c0 }) (record { is = p .c1 }) (record { is = p .c2 }) in
-    oriented-finite _ _ _ (nutated-under W.Cosine t angles dec (byCentury (e .dec) t) (length dec) (cs .few) (λ i g. record { is = cs .each i g }) start)
+    oriented-finite _ _ _ (nutated-under t angles dec (byCentury (e .dec) t) (length dec) (cs .few) (λ i g. record { is = cs .each i g }) start)

@@ -1,6 +1,7 @@
 -- Document 01, "Evaluation" and the built-in part of "Elements wanted".
 pub mod Epochs
 pub mod Elements
+pub mod Terms
 pub mod Matrix
 pub mod Evaluation
 pub mod Codes

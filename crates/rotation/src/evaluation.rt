@@ -5,7 +5,7 @@ use super::epoch;
 use super::matrix;
 use super::matrix::Orientation;
 use super::nutation;
-use super::nutation::Wave;
+use super::nutation::Sums;
 ghost use mathlib.Core.Path.{_≡_};
 ghost use Rattle.rotation.specs.Elements.{Enough};
 ghost use Rattle.rotation.specs.Evaluation.{evaluated};
@@ -24,8 +24,11 @@ pub fn evaluate(
 {
     let d = epoch::in_days(epoch);
     let t = epoch::in_centuries(d);
-    let x = nutation::nutate(Wave::Sine, t, angles, ra, elements::by_century(e.ra, t));
-    let y = nutation::nutate(Wave::Cosine, t, angles, dec, elements::by_century(e.dec, t));
-    let z = nutation::nutate(Wave::Sine, t, angles, pm, elements::by_day(e.pm, d));
-    matrix::orient(x, y, z)
+    let start = Sums {
+        ra: elements::by_century(e.ra, t),
+        dec: elements::by_century(e.dec, t),
+        w: elements::by_day(e.pm, d),
+    };
+    let sums = nutation::nutate(t, angles, ra, dec, pm, start);
+    matrix::orient(sums.ra, sums.dec, sums.w)
 }

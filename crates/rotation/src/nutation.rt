@@ -3,35 +3,72 @@ use super::epoch::Centuries;
 use angle::sine;
 use angle::sine::SineCosine;
 ghost use mathlib.Core.Path.{_≡_};
-ghost use Prim.Native.Nat.{_*_, _≤_};
-ghost use lib.ListN.{length};
-ghost use Rattle.rotation.specs.Elements.{part, nutated};
+ghost use Rattle.rotation.specs.Elements.{Enough, nutatedAll};
+ghost use Rattle.rotation.specs.Terms.{Longest, Adds, AddsAll};
 
-pub enum Wave {
-    Sine,
-    Cosine,
+// Right ascension, declination and meridian, while terms are added.
+pub struct Sums {
+    pub ra: f64,
+    pub dec: f64,
+    pub w: f64,
 }
 
-// The start, with each coefficient times the sine or the cosine of its angle added.
-pub fn nutate(wave: Wave, t: Centuries, angles: &[f64], coefficients: &[f64], start: f64) -> f64
-    requires { ⌜ 2 * length (now coefficients) ≤ length (now angles) ⌝ }
-    ensures { λ r. ⌜ r ≡ nutated wave t (now (angles .entry)) (now (coefficients .entry)) start (length (now (coefficients .entry))) ⌝ }
+// The start, with each coefficient times the sine or the cosine of its angle added. An angle's sine and cosine are taken once.
+pub fn nutate(
+    t: Centuries,
+    angles: &[f64],
+    ra: &[f64],
+    dec: &[f64],
+    pm: &[f64],
+    start: Sums,
+) -> Sums
+    requires { ⌜ Enough (now angles) (now ra) (now dec) (now pm) ⌝ }
+    ensures { λ r. ⌜ r ≡ nutatedAll t (now (angles .entry)) (now (ra .entry)) (now (dec .entry)) (now (pm .entry)) start ⌝ }
 {
-    let mut sum = start;
+    let terms = longest(ra.len(), dec.len(), pm.len());
+    let mut sums = start;
     let mut i = 0;
-    while i < coefficients.len() {
+    while i < terms {
         let pair = sine::sine_cosine(angles[2 * i] + t.0 * angles[2 * i + 1]);
-        sum = sum + coefficients[i] * part_of(wave, pair);
+        sums = add_terms(sums, pair, i, ra, dec, pm);
         i += 1;
     }
-    sum
+    sums
 }
 
-fn part_of(wave: Wave, pair: SineCosine) -> f64
-    ensures { λ r. ⌜ r ≡ part wave pair ⌝ }
+// The largest of three lengths.
+fn longest(ra: usize, dec: usize, pm: usize) -> usize
+    ensures { λ r. ⌜ Longest ra dec pm r ⌝ }
 {
-    match wave {
-        Wave::Sine => pair.0,
-        Wave::Cosine => pair.1,
+    if ra < dec {
+        if dec < pm {
+            return pm;
+        }
+        return dec;
     }
+    if ra < pm {
+        return pm;
+    }
+    ra
+}
+
+// The sums with term i.
+fn add_terms(sums: Sums, pair: SineCosine, i: usize, ra: &[f64], dec: &[f64], pm: &[f64]) -> Sums
+    ensures { λ r. ⌜ AddsAll sums pair i (now (ra .entry)) (now (dec .entry)) (now (pm .entry)) r ⌝ }
+{
+    Sums {
+        ra: add_term(sums.ra, ra, i, pair.0),
+        dec: add_term(sums.dec, dec, i, pair.1),
+        w: add_term(sums.w, pm, i, pair.0),
+    }
+}
+
+// The sum with coefficient i times x, where there is such a coefficient.
+fn add_term(sum: f64, coefficients: &[f64], i: usize, x: f64) -> f64
+    ensures { λ r. ⌜ Adds sum (now (coefficients .entry)) i x r ⌝ }
+{
+    if i < coefficients.len() {
+        return sum + coefficients[i] * x;
+    }
+    sum
 }

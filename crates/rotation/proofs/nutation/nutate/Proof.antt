@@ -1,23 +1,24 @@
--- `nutate` meets its contract: the loop keeps the start with the first i terms added. Assumes nothing.
-use mathlib.Core.Path.{_≡_, refl, ap, _∙_}
-use Prim.Native.Nat.{_≤_, _-_}
+-- `nutate` meets its contract: the loop keeps the sums at term i, and every term has its angle. Assumes nothing.
+use Prim.Native.Nat.{_*_, _≤_, _-_}
 use native.Mathlib.Omega.{arith}
-use native.Mathlib.Numerals.{add-one}
 use lib.ListN.{length}
 use borrow.Author.Needs.{needs}
-use Rattle.rotation.specs.Elements.{nutated}
+use Rattle.rotation.specs.Elements.{nutatedAll}
+use Rattle.rotation.proofs.Terms.{ReachedAll, no-terms, more-terms, all-terms, angles-enough}
 use Rattle.rotation.proofs.nutation.nutate.Statement.{statement}
 use Rattle.rotation.proofs.nutation.nutate.Tie as tie
 
 abbrev Inv-loop : tie.InvT-loop
-Inv-loop wave t angles coefficients start sum₀ i₀ sum i = (i ≤ length coefficients) × (sum ≡ nutated wave t angles coefficients start i)
+Inv-loop t angles ra dec pm terms sums₀ i₀ sums i = (i ≤ terms) × (2 * terms ≤ length angles) × ReachedAll t angles ra dec pm sums₀ sums i
 
 abbrev μ-loop : tie.MeasureT-loop
-μ-loop wave t angles coefficients start sum₀ i₀ sum i = length coefficients - i
+μ-loop t angles ra dec pm terms sums₀ i₀ sums i = terms - i
+
+longest-requires : tie.Need-longest-requires Inv-loop μ-loop
+longest-requires c κs = search needs
 
 loop-holds : tie.Need-loop-holds Inv-loop μ-loop
-unfolding nutated
-loop-holds c = (search needs, refl)
+loop-holds c = (omega arith, angles-enough _ _ _ _ _ (c .before .before .before .before .before .pre) (c .longest .ensures), no-terms _ _ _ _ _ _)
 
 mul-sine-cosine : tie.Need-mul-sine-cosine Inv-loop μ-loop
 mul-sine-cosine c = search needs
@@ -43,14 +44,8 @@ shared-slice-read-sine-cosine-2 c = search needs
 sine-cosine-requires : tie.Need-sine-cosine-requires Inv-loop μ-loop
 sine-cosine-requires c κs = search needs
 
-mul-sum : tie.Need-mul-sum Inv-loop μ-loop
-mul-sum c = search needs
-
-shared-slice-read-sum : tie.Need-shared-slice-read-sum Inv-loop μ-loop
-shared-slice-read-sum c = search needs
-
-part-of-requires : tie.Need-part-of-requires Inv-loop μ-loop
-part-of-requires c κs = search needs
+add-terms-requires : tie.Need-add-terms-requires Inv-loop μ-loop
+add-terms-requires c κs = search needs
 
 add-i : tie.Need-add-i Inv-loop μ-loop
 add-i c = search needs
@@ -59,12 +54,14 @@ loop-less : tie.Need-loop-less Inv-loop μ-loop
 loop-less c = search needs
 
 loop-again : tie.Need-loop-again Inv-loop μ-loop
-unfolding nutated
 loop-again c =
-    (search needs, rw (add-one, c .part-of .ensures, c .before .before .sine-cosine .ensures, c .before .before .before .before .before .before .before .loop .inv .1))
+    let inv = c .before .before .before .before .before .before .loop .inv in
+    (omega arith, inv .1, more-terms _ _ _ _ _ _ _ _ _ _ (inv .2) (c .before .sine-cosine .ensures) (c .add-terms .ensures))
 
 returns : tie.Need-returns Inv-loop μ-loop
-returns c = c .before .loop .inv .1 ∙ ap (nutated _ _ _ _ _) (omega arith)
+returns c =
+    let l = c .before .before .longest .ensures in
+    all-terms _ _ _ _ _ _ _ _ (c .before .loop .inv .2) (omega (arith, l .coversRA)) (omega (arith, l .coversDEC)) (omega (arith, l .coversPM))
 
 pub nutate-spec : {M : Type 1} → statement M
 nutate-spec =
@@ -72,6 +69,7 @@ nutate-spec =
     (tie.spec
     Inv-loop
     μ-loop
+    longest-requires
     loop-holds
     mul-sine-cosine
     mul-sine-cosine-2
@@ -81,9 +79,7 @@ nutate-spec =
     mul-sine-cosine-4
     shared-slice-read-sine-cosine-2
     sine-cosine-requires
-    mul-sum
-    shared-slice-read-sum
-    part-of-requires
+    add-terms-requires
     add-i
     loop-less
     loop-again
