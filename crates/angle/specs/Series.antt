@@ -1,7 +1,11 @@
 -- "A nested series closes from its innermost term: q = 1, then q = 1 − (z / p)·q for each p." Definitions only.
 use mathlib.Core.List.{List, [], _∷_}
+use Prim.Native.Nat.{ℕ, _-_}
 use lib.Ieee.{Float}
+use lib.ListN.{length, drop}
 use Rattle.plain.specs.Doubles.{_⊖_, _⊗_, _⊘_, printed}
+use Rattle.angle.specs.declared.series.Series.{Series}
+use Rattle.angle.specs.declared.series.Series.the-variants as S
 
 abbrev pub one : Float
 one = printed 1 0
@@ -19,3 +23,11 @@ sineDivisors = printed 210 0 ∷ printed 156 0 ∷ printed 110 0 ∷ printed 72 
 abbrev pub cosineDivisors : List Float
 cosineDivisors =
     printed 240 0 ∷ printed 182 0 ∷ printed 132 0 ∷ printed 90 0 ∷ printed 56 0 ∷ printed 30 0 ∷ printed 12 0 ∷ printed 2 0 ∷ []
+
+abbrev pub divisorsOf : Series → List Float
+divisorsOf S.Sine = sineDivisors
+divisorsOf S.Cosine = cosineDivisors
+
+-- the last n of a list, which remain when those before them are taken up
+abbrev pub last : ℕ → List Float → List Float
+last n ps = drop (length ps - n) ps
