@@ -41,6 +41,11 @@ pub use answer::{Orientation, Totals};
 pub use pool::Pool;
 pub use refusal::{Refusal, Refused};
 
+/// The Rust programs of the guide, run as tests.
+#[cfg(doctest)]
+#[doc = include_str!("../../../docs/GUIDE.md")]
+pub struct Guide;
+
 /// The orientation of a body by the built-in table, at an epoch in TDB seconds past J2000. The
 /// table has the Sun, 10, and the planets, 199, 299 and so on to 999.
 ///
