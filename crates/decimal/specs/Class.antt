@@ -1,7 +1,7 @@
 -- "Each reading of a value is either a number in the class or a refusal: w at most 9,007,199,254,740,992 and k from −22 to 22, also
 -- for zero. The value is w as a double, times 10^k once if k ≥ 0, else divided by 10^−k once, then negated for a minus." Definitions only.
 use Prim.Native.Nat.{ℕ, suc, _^_}
-use mathlib.Core.Bool.{Bool, true, false, _&&_}
+use mathlib.Core.Bool.{Bool, _&&_}
 use mathlib.Core.List.{List}
 use lib.Dec.{leb}
 use lib.IntN.{ℤ, pos, negsuc, natAbs}

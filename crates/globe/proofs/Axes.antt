@@ -12,8 +12,8 @@ use Rattle.plain.specs.Choice.{if_then_else_}
 use Rattle.refusal.specs.declared.Refusal.the-variants.{UnknownBody, WrongCount}
 use Rattle.rotation.specs.declared.table.Radii.{Radii}
 use Rattle.rotation.specs.declared.table.Radii.the-variants.{Given, Refused}
-use Rattle.pool.specs.declared.variable.Found.{Found}
-use Rattle.pool.specs.declared.variable.Found.the-variants as F
+use Rattle.variables.specs.declared.variable.Found.{Found}
+use Rattle.variables.specs.declared.variable.Found.the-variants as F
 use Rattle.globe.specs.Radii.{axes}
 use Rattle.globe.specs.Steps.{Looks}
 use Rattle.globe.proofs.Found.{counted, crowded, absent}

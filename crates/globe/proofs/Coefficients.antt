@@ -1,20 +1,19 @@
 -- Nutation found in buffers: the counts decide as document 01's lists do, and the parts of the buffers are the lists. Assumes nothing.
-use mathlib.Core.Path.{_≡_, refl, sym, ap, _∙_}
-use mathlib.Core.Bool.{Bool, true, false, _&&_}
+use mathlib.Core.Path.{_≡_, refl, _∙_}
+use mathlib.Core.Bool.{Bool, true, false}
 use mathlib.Core.List.{List, []}
-use Prim.Native.Nat.{ℕ, suc, _+_, _*_, _%_, _≤_, _<_, min, max}
+use Prim.Native.Nat.{ℕ, _+_, _*_, _%_, _≤_, _<_, min, max}
 use native.Mathlib.Omega.{arith}
-use borrow.Author.Tests.{eq-eqb, le-leb, lt-leb, leb-true, leb-false}
+use borrow.Author.Tests.{le-leb, lt-leb, leb-true, leb-false}
 use lib.Dec.{leb, eqb}
 use lib.Ieee.{Float}
 use lib.ListN.{length, take}
-use Rattle.plain.specs.Choice.{if_then_else_}
 use Rattle.refusal.specs.declared.Refusal.the-variants.{Incomplete, WrongCount}
 use Rattle.rotation.specs.declared.matrix.Oriented.{Oriented}
-use Rattle.rotation.specs.declared.matrix.Oriented.the-variants.{Given, Refused}
-use Rattle.pool.specs.declared.variable.Found.{Found}
-use Rattle.pool.specs.declared.variable.Found.the-variants as F
-use Rattle.globe.specs.Elements.{ANGLES, enoughAngles}
+use Rattle.rotation.specs.declared.matrix.Oriented.the-variants.{Refused}
+use Rattle.variables.specs.declared.variable.Found.{Found}
+use Rattle.variables.specs.declared.variable.Found.the-variants as F
+use Rattle.globe.specs.Elements.{ANGLES}
 use Rattle.globe.specs.Steps.{Looks, COEFFICIENTS, countOf, weighed, termsOf, Fronts, byBase, byAngles}
 use Rattle.globe.specs.declared.elements.Base.{Base}
 use Rattle.globe.specs.declared.nutation.Lengths.{Lengths}

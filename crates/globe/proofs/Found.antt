@@ -8,16 +8,15 @@ use borrow.Author.Tests.{le-leb, leb-true, leb-false}
 use lib.Dec.{leb}
 use lib.Ieee.{Float, binary64, ofBits}
 use lib.ListN.{length, length-map}
-use Rattle.plain.specs.Choice.{if_then_else_}
 use Rattle.words.specs.Over.{over}
 use Rattle.words.proofs.Over.{over-nil}
 use Rattle.layout.specs.State.{Pool}
 use Rattle.layout.specs.Memory.{decode}
-use Rattle.pool.specs.Variables.{variable, present}
-use Rattle.pool.specs.Fetch.{doubles, foundIn, filled, Finds}
-use Rattle.pool.specs.declared.variable.Found.{Found}
-use Rattle.pool.specs.declared.variable.Found.the-variants as F
-use Rattle.pool.proofs.Presence.{absent-empty}
+use Rattle.variables.specs.Variables.{variable, present}
+use Rattle.variables.specs.Found.{doubles, foundIn, filled, Finds}
+use Rattle.variables.specs.declared.variable.Found.{Found}
+use Rattle.variables.specs.declared.variable.Found.the-variants as F
+use Rattle.variables.proofs.Presence.{absent-empty}
 use Rattle.globe.specs.Names.{nameOf}
 use Rattle.globe.specs.Elements.{there, list}
 use Rattle.globe.specs.declared.name.Wanted.{Wanted}

@@ -1,24 +1,21 @@
 -- A variable found over three zeros: which of the four cases of `valuesOf` it is. Assumes nothing.
-use mathlib.Core.Path.{_≡_, refl, sym, ap, _∙_}
-use mathlib.Core.Bool.{Bool, true, false}
+use mathlib.Core.Path.{_≡_, refl, ap, _∙_}
+use mathlib.Core.Bool.{Bool}
 use mathlib.Core.List.{List, [], _∷_}
-use Prim.Native.Nat.{ℕ, suc, _≤_}
+use Prim.Native.Nat.{ℕ, _≤_}
 use native.Mathlib.Omega.{arith}
-use borrow.Author.Tests.{leb-true, lt-leb, le-leb}
-use lib.Dec.{leb}
+use borrow.Author.Tests.{lt-leb, le-leb}
 use lib.Ieee.{Float, nan}
 use lib.ListN.{length, getD}
-use Rattle.plain.specs.Choice.{if_then_else_}
 use Rattle.plain.specs.Doubles.{printed}
 use Rattle.rotation.specs.declared.elements.Polynomial.{Polynomial}
 use Rattle.words.specs.Over.{over}
-use Rattle.pool.specs.declared.variable.Found.{Found}
-use Rattle.pool.specs.declared.variable.Found.the-variants as F
-use Rattle.globe.specs.Elements.{fewValues, polynomial}
+use Rattle.variables.specs.declared.variable.Found.{Found}
+use Rattle.variables.specs.declared.variable.Found.the-variants as F
+use Rattle.globe.specs.Elements.{polynomial}
 use Rattle.globe.specs.Steps.{Looks, valuesOf}
-use Rattle.globe.specs.declared.elements.Values.{Values}
 use Rattle.globe.specs.declared.elements.Values.the-variants as P
-use Rattle.globe.proofs.Found.{Counted, counted, crowded, absent}
+use Rattle.globe.proofs.Found.{counted, crowded, absent}
 
 -- three zeros
 abbrev pub zeros : List Float

@@ -1,13 +1,13 @@
 -- What four variables found in buffers settle is the answer by nutation, for any texts. Assumes nothing.
-use mathlib.Core.Path.{_≡_, refl, sym, ap, _∙_}
-use mathlib.Core.Bool.{Bool, true, false, _||_}
+use mathlib.Core.Path.{_≡_, _∙_}
+use mathlib.Core.Bool.{Bool, true, _||_}
 use mathlib.Core.List.{List, []}
 use Prim.Native.Nat.{ℕ}
 use lib.Ieee.{Float}
 use lib.ListN.{length}
 use Rattle.plain.specs.Choice.{if_then_else_}
 use Rattle.layout.specs.State.{Pool}
-use Rattle.pool.specs.declared.variable.Found.{Found}
+use Rattle.variables.specs.declared.variable.Found.{Found}
 use Rattle.globe.specs.Elements.{ANGLES, there, list, nutating}
 use Rattle.globe.specs.Steps.{Looks, COEFFICIENTS, isThere, termsOf, byNutation}
 use Rattle.globe.specs.declared.elements.Base.{Base}

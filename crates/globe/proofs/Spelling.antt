@@ -1,5 +1,5 @@
 -- Names spelled piece by piece: two pieces written one after the other are their joint list written. Assumes nothing.
-use mathlib.Core.Path.{_≡_, refl, sym, ap, _∙_}
+use mathlib.Core.Path.{_≡_, sym, _∙_}
 use mathlib.Core.Bool.{Bool, true, false}
 use mathlib.Core.List.{List, [], _∷_, _++_}
 use Prim.Native.Nat.{ℕ, _+_, _/_, _%_, _≤_}
@@ -9,7 +9,6 @@ use lib.ListN.{length, length-append}
 use Rattle.plain.specs.Choice.{if_then_else_}
 use Rattle.plain.specs.Bytes.{UNDERSCORE}
 use Rattle.text.specs.Statements.{NAME}
-use Rattle.words.specs.Over.{over}
 use Rattle.words.proofs.Over.{over-append}
 use Rattle.globe.specs.Names.{SUFFIX, FIGURES, figure, numeral, suffix, nameOf}
 use Rattle.globe.specs.Spelling.{Written}

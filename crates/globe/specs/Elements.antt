@@ -1,6 +1,6 @@
 -- "Elements wanted": what a pool has for a body, and the order of what may be wrong with it. Definitions only.
 use Prim.Native.Nat.{ℕ, _*_, _%_, max}
-use mathlib.Core.Bool.{Bool, true, false, _&&_, _||_, not}
+use mathlib.Core.Bool.{Bool, true, _&&_, _||_, not}
 use mathlib.Core.List.{List, []}
 use lib.Dec.{leb, eqb}
 use lib.Ieee.{Float}
@@ -11,8 +11,8 @@ use Rattle.plain.specs.Doubles.{printed}
 use Rattle.rotation.specs.declared.elements.Polynomial.{Polynomial}
 use Rattle.rotation.specs.declared.elements.Elements.{Elements}
 use Rattle.layout.specs.State.{Pool}
-use Rattle.pool.specs.Variables.{present}
-use Rattle.pool.specs.Fetch.{doubles}
+use Rattle.variables.specs.Variables.{present}
+use Rattle.variables.specs.Found.{doubles}
 use Rattle.globe.specs.Names.{nameOf}
 use Rattle.globe.specs.declared.name.Wanted.{Wanted}
 use Rattle.globe.specs.declared.name.Wanted.the-variants as W

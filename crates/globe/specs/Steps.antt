@@ -8,8 +8,6 @@ use lib.Dec.{leb, eqb}
 use lib.Ieee.{Float}
 use lib.ListN.{length}
 use Rattle.plain.specs.Choice.{if_then_else_}
-use Rattle.rotation.specs.declared.elements.Polynomial.{Polynomial}
-use Rattle.rotation.specs.declared.elements.Elements.{Elements}
 use Rattle.refusal.specs.declared.Refusal.the-variants.{Incomplete, WrongCount}
 use Rattle.rotation.specs.Evaluation.{evaluated}
 use Rattle.rotation.specs.declared.matrix.Oriented.{Oriented}
@@ -17,9 +15,9 @@ use Rattle.rotation.specs.declared.matrix.Oriented.the-variants.{Given, Refused
 use Rattle.layout.specs.State.{Pool}
 use Rattle.layout.specs.Memory.{decode}
 use Rattle.layout.specs.Damage.{sound}
-use Rattle.pool.specs.Fetch.{filled}
-use Rattle.pool.specs.declared.variable.Found.{Found}
-use Rattle.pool.specs.declared.variable.Found.the-variants as F
+use Rattle.variables.specs.Found.{filled}
+use Rattle.variables.specs.declared.variable.Found.{Found}
+use Rattle.variables.specs.declared.variable.Found.the-variants as F
 use Rattle.globe.specs.Names.{LARGEST}
 use Rattle.globe.specs.Elements.{there, list, fewValues, polynomial, nutating, angles, enoughAngles}
 use Rattle.globe.specs.declared.name.Wanted.{Wanted}

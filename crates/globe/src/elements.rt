@@ -1,11 +1,11 @@
 // "Elements wanted": the variables of a body in an undamaged pool, and the polynomials of pole and meridian.
 use super::name;
 use super::name::Wanted;
-use pool::variable::Found;
-use pool::variable::variable;
 use rotation::elements::Elements;
 use rotation::elements::Polynomial;
 use text::statements::NAME;
+use variables::variable::Found;
+use variables::variable::variable;
 ghost use mathlib.Core.Path.{_≡_};
 ghost use Prim.Native.Nat.{_+_};
 ghost use Rattle.layout.specs.Memory.{decode};

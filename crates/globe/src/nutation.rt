@@ -2,10 +2,10 @@
 // angles of its system, found and counted.
 use super::elements;
 use super::name::Wanted;
-use pool::variable::Found;
 use rotation::elements::Elements;
 use rotation::evaluation;
 use rotation::matrix::Orientation;
+use variables::variable::Found;
 ghost use mathlib.Core.Path.{_≡_};
 ghost use mathlib.Core.Bool.{_||_};
 ghost use lib.ListN.{take};

@@ -2,12 +2,12 @@
 use super::elements;
 use super::name::Wanted;
 use layout::check::is_sound;
-use pool::variable::Found;
 use refusal::Refusal;
 use rotation::code;
 use rotation::code::System;
 use rotation::table::Axes;
 use rotation::table::Radii;
+use variables::variable::Found;
 ghost use mathlib.Core.Path.{_≡_};
 ghost use mathlib.Core.Bool.{true};
 ghost use Rattle.layout.specs.Memory.{decode};

@@ -1,9 +1,9 @@
 -- Thirty-two bits lose nothing: a line is one of a text of at most 65,536 bytes, a count is one of at most 3,072 held values.
 -- Assumes nothing.
-use mathlib.Core.Path.{_≡_, refl, sym, ap, _∙_}
+use mathlib.Core.Path.{_≡_, refl}
 use mathlib.Core.Bool.{Bool, true, false, _&&_}
 use mathlib.Core.List.{List, [], _∷_, _++_}
-use Prim.Native.Nat.{ℕ, suc, _+_, _≤_, _<_}
+use Prim.Native.Nat.{ℕ, _+_, _≤_}
 use native.Mathlib.Omega.{arith}
 use borrow.Author.Tests.{ltb-false}
 use lib.Dec.{eqb, ltb, leb}
@@ -15,7 +15,7 @@ use Rattle.text.specs.Statements.{Statement}
 use Rattle.text.specs.Text.{Read, fine, refused, readText}
 use Rattle.text.proofs.FirstFault.{number-within}
 use Rattle.layout.specs.State.{Pool, program, flat, valuesOf, values}
-use Rattle.layout.specs.Limits.{TEXTS, STATEMENTS, VALUES, room}
+use Rattle.layout.specs.Limits.{TEXTS, STATEMENTS, VALUES, room, LONGEST}
 use Rattle.layout.specs.Memory.{decode}
 use Rattle.layout.specs.Damage.{sound}
 use Rattle.layout.proofs.Sound.{sound-of}
@@ -24,11 +24,12 @@ use Rattle.refusal.specs.declared.Refusal.the-variants.{LabelHeld, TextTooLong,
 use Rattle.pool.specs.Replies.{replyLine, refusing, fetchedCount, countsTexts, countsStatements, countsValues}
 use Rattle.pool.specs.Totals.{counts, totalsReply}
 use Rattle.pool.specs.declared.reply.Counts.the-variants as C
-use Rattle.pool.specs.Variables.{has, any, assigns, since, gives, variable, present}
-use Rattle.pool.specs.Load.{LONGEST, held, admitted, loadAnswer, loadReply, with, textOf}
-use Rattle.pool.specs.Fetch.{foundIn, fetched, fetchReply}
+use Rattle.variables.specs.Variables.{has, any, assigns, since, gives, variable, present}
+use Rattle.pool.specs.Load.{held, admitted, loadAnswer, loadReply, with, textOf}
+use Rattle.variables.specs.Found.{foundIn}
+use Rattle.pool.specs.Fetch.{fetched, fetchReply}
 use Rattle.pool.specs.declared.reply.Fetched.the-variants as F
-use Rattle.pool.specs.declared.variable.Found.the-variants as W
+use Rattle.variables.specs.declared.variable.Found.the-variants as W
 
 -- ---- lines
 

@@ -8,7 +8,6 @@ use rotation::matrix::Orientation;
 use rotation::matrix::Oriented;
 use rotation::table::Radii;
 ghost use mathlib.Core.Path.{_≡_};
-ghost use Rattle.refusal.specs.Numbers.{numberOf};
 ghost use Rattle.rotation.specs.declared.matrix.Oriented.the-variants.{Given, Refused};
 ghost use Rattle.globe_c.specs.Faces.{narrow, replyFace, fetchedFace, countsFace, orientedFace, axesFace};
 

@@ -6,7 +6,7 @@ use native.Mathlib.Omega.{arith}
 use lib.ListN.{length, length-drop}
 use lib.Seq.{length-take-le}
 use Rattle.words.specs.Over.{part}
-use Rattle.layout.specs.Limits.{TEXTS, STATEMENTS, VALUES, NAMEWORDS, TEXTS-AT, HEADS-AT, NAMES-AT, VALUES-AT}
+use Rattle.layout.specs.Limits.{NAMEWORDS, TEXTS-AT, HEADS-AT, NAMES-AT, VALUES-AT}
 use Rattle.layout.specs.Memory.{textCount, statementCount, valueCount, textWords, headWords, nameWords, valueWords}
 use Rattle.layout.specs.Damage.{Sized}
 

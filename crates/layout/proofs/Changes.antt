@@ -1,19 +1,18 @@
 -- What a load and a removal leave in a memory: a text added at the end of every column, and a text's gap closed in every column,
 -- with the totals written, are the changed state put. Assumes nothing.
-use mathlib.Core.Path.{_≡_, refl, sym, ap, ap₂, subst, _∙_}
-use mathlib.Core.List.{List, [], _∷_, _++_, append-nil}
-use Prim.Native.Nat.{ℕ, _+_, _*_, _≤_}
+use mathlib.Core.Path.{_≡_, sym, ap, subst, _∙_}
+use mathlib.Core.List.{List, [], _∷_, _++_}
+use Prim.Native.Nat.{ℕ, _+_}
 use native.Mathlib.Omega.{arith}
-use lib.ListN.{length, length-append}
+use lib.ListN.{length-append}
 use Rattle.text.specs.Statements.{Statement}
-use Rattle.words.specs.Over.{over, moved}
-use Rattle.layout.specs.State.{Text, Pool, program, flat, valuesOf, values}
-use Rattle.layout.specs.Limits.{NAMEWORDS, TEXTS-AT, HEADS-AT, NAMES-AT, VALUES-AT}
-use Rattle.layout.specs.Memory.{textWord, headWord, nameOf, totals, put}
-use Rattle.layout.proofs.Columns.{Column, laid, Stands, Room, putColumns, addColumns, closeColumns, stands-over, add-put, close-put}
+use Rattle.words.specs.Over.{over}
+use Rattle.layout.specs.State.{Text, Pool, program}
+use Rattle.layout.specs.Limits.{TEXTS-AT, HEADS-AT}
+use Rattle.layout.specs.Memory.{totals, put}
+use Rattle.layout.proofs.Columns.{Stands, Room, putColumns, addColumns, closeColumns, stands-over, add-put, close-put}
 use Rattle.layout.proofs.Legal.{Fits, program-append, program-one}
-use Rattle.layout.proofs.Codec.{length-laid-names}
-use Rattle.layout.proofs.Holds.{Holds, perText, perStatement, spaced-texts, spaced-statements, put-columns, room-texts, room-statements, holds-texts, holds-statements, length-laid-texts, length-laid-heads}
+use Rattle.layout.proofs.Holds.{Holds, perText, perStatement, spaced-texts, spaced-statements, put-columns, room-texts, room-statements, holds-texts, holds-statements, length-laid-texts}
 
 -- the statements' columns stay while the texts' column is written
 stands-texts : (s t : Pool) (m : List ℕ) → Room perText t → Stands perStatement (program s) m → Stands perStatement (program s) (putColumns perText t m)

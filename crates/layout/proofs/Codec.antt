@@ -1,13 +1,11 @@
 -- Cutting a state out of the areas' words and laying it out into them are each other's inverse. Assumes nothing.
 use mathlib.Core.Path.{_≡_, refl, sym, ap, ap₂, _∙_}
-use mathlib.Core.Bool.{Bool, true, false}
+use mathlib.Core.Bool.{true}
 use mathlib.Core.List.{List, [], _∷_, _++_, map}
 use Prim.Native.Nat.{ℕ, zero, suc, _+_, _*_, _-_, _≤_, _<_}
 use native.Mathlib.Omega.{arith}
-use lib.Dec.{eqb}
 use lib.ListN.{length, take, drop, length-append, length-take, length-drop, take-append-drop}
 use lib.Seq.{take-at, drop-at, length-take-le}
-use Rattle.plain.specs.Choice.{if_then_else_}
 use Rattle.text.specs.Statements.{Statement}
 use Rattle.text.specs.declared.statements.Operator.{Operator}
 use Rattle.text.specs.declared.statements.Operator.the-variants.{Direct, Append}
@@ -16,7 +14,7 @@ use Rattle.words.proofs.Each.{Each, Words, WORD, each-append, each-take, each-d
 use Rattle.words.proofs.Halves.{upper-joined, lower-joined, joined-halves}
 use Rattle.layout.specs.State.{Text, Pool, program, flat, valuesOf, values}
 use Rattle.layout.specs.Limits.{NAMEWORDS}
-use Rattle.layout.specs.Names.{legal, packed, unpacked}
+use Rattle.layout.specs.Names.{packed, unpacked}
 use Rattle.layout.specs.Memory.{operatorNumber, operatorOf, cutStatements, cutTexts, textWord, headWord, nameOf}
 use Rattle.layout.specs.Damage.{small}
 use Rattle.layout.proofs.Names.{unpacked-packed, packed-unpacked, legal-unpacked, holds-packed, words-packed}

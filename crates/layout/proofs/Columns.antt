@@ -7,7 +7,7 @@ use native.Mathlib.Omega.{arith}
 use lib.ListN.{length, take, drop, length-append}
 use lib.Seq.{take-append-seam, take-take, take-add, drop-at, drop-drop}
 use Rattle.words.specs.Over.{over, part, moved}
-use Rattle.words.proofs.Over.{over-prefix, over-append, over-comm, over-nil, part-before, part-after, part-over, length-over}
+use Rattle.words.proofs.Over.{over-prefix, over-append, over-comm, part-before, part-after, part-over, length-over}
 use Rattle.layout.specs.State.{flat}
 
 -- ---- lists laid out for each element

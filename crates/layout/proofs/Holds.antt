@@ -1,26 +1,26 @@
 -- A memory holds a state: a sound one what it decodes to, and one that was put into what was put. Assumes nothing.
-use mathlib.Core.Path.{_≡_, refl, sym, ap, ap₂, subst, _∙_}
-use mathlib.Core.Bool.{Bool, true, false}
-use mathlib.Core.List.{List, [], _∷_, _++_, map}
-use Prim.Native.Nat.{ℕ, _+_, _*_, _≤_, _<_}
+use mathlib.Core.Path.{_≡_, sym, ap, ap₂, subst, _∙_}
+use mathlib.Core.Bool.{true}
+use mathlib.Core.List.{List, [], _∷_, map}
+use Prim.Native.Nat.{ℕ, _*_, _≤_, _<_}
 use native.Mathlib.Omega.{arith}
-use lib.Dec.{lit<, lit≤}
-use lib.ListN.{length, take, drop, getD, length-map}
+use lib.Dec.{lit<}
+use lib.ListN.{length, drop, getD, length-map}
 use lib.Seq.{getD-take}
 use Rattle.text.specs.Statements.{Statement}
-use Rattle.words.specs.Halves.{HALF, upper, lower, sum}
+use Rattle.words.specs.Halves.{upper, lower, sum}
 use Rattle.words.specs.Over.{over, part}
 use Rattle.words.proofs.Each.{Each, Words, WORD, each-take, each-drop}
-use Rattle.words.proofs.Halves.{Different, upper-joined, lower-joined}
+use Rattle.words.proofs.Halves.{Different}
 use Rattle.words.proofs.Over.{length-over, part-over, each-over}
 use Rattle.layout.specs.State.{Text, Pool, program, flat, valuesOf, values}
-use Rattle.layout.specs.Limits.{TEXTS, STATEMENTS, VALUES, WORDS, NAMEWORDS, TEXTS-AT, HEADS-AT, NAMES-AT, VALUES-AT}
-use Rattle.layout.specs.Memory.{textCount, statementCount, valueCount, textWords, headWords, nameWords, valueWords, operatorNumber, cutStatements, cutTexts, decode, textWord, headWord, nameOf, totals, put}
+use Rattle.layout.specs.Limits.{WORDS, NAMEWORDS, TEXTS-AT, HEADS-AT, NAMES-AT, VALUES-AT}
+use Rattle.layout.specs.Memory.{textCount, statementCount, valueCount, textWords, headWords, nameWords, valueWords, cutStatements, cutTexts, decode, textWord, headWord, nameOf, totals, put}
 use Rattle.layout.specs.Damage.{Sized, small, sound}
-use Rattle.layout.proofs.Areas.{length-part, length-texts, length-heads, length-names, length-values}
-use Rattle.layout.proofs.Sound.{Sound, Named, sound-of, of-sound}
-use Rattle.layout.proofs.Columns.{At, at-before, at-after, Column, laid, Spaced, Within, Room, Stands, putColumns, at-putColumns, length-putColumns, stands-over, put-stands, flat-map}
-use Rattle.layout.proofs.Legal.{Fits, Fair, Legal, Bounded, labelOf}
+use Rattle.layout.proofs.Areas.{length-texts, length-heads, length-names, length-values}
+use Rattle.layout.proofs.Sound.{Sound, Named, of-sound}
+use Rattle.layout.proofs.Columns.{At, at-after, Column, Spaced, Within, Room, Stands, putColumns, at-putColumns, length-putColumns, stands-over, put-stands, flat-map}
+use Rattle.layout.proofs.Legal.{Fits, Fair, Legal, Bounded}
 use Rattle.layout.proofs.Codec.{Short, ShortText, cut-statements, cut-texts, each-short, each-short-text, sum-texts, sum-heads, length-laid-names, length-cut, heads-cut, values-cut, names-cut, words-cut, program-cut, labels-cut, fair-cut, bounded-cut, bounded-labels, labels-laid, named-laid, operators-laid, counts-laid, small-laid, words-texts, words-heads, words-names, words-values}
 
 pub record Holds (m : List ℕ) (s : Pool) : Type 0 where

@@ -1,7 +1,7 @@
 -- What a state must be for a memory to hold it, as facts: within the limits, its labels different, its statements fair.
 -- Assumes nothing.
 use mathlib.Core.Path.{_≡_, refl, sym, ap, subst, _∙_}
-use mathlib.Core.Bool.{Bool, true, false, _&&_}
+use mathlib.Core.Bool.{true, _&&_}
 use mathlib.Core.List.{List, [], _∷_, _++_, map, append-assoc, append-nil}
 use Prim.Native.Nat.{ℕ, _+_, _≤_, _<_}
 use native.Mathlib.Omega.{arith}
@@ -11,7 +11,7 @@ use lib.ListN.{length, length-append}
 use Rattle.text.specs.Statements.{Statement}
 use Rattle.words.specs.Halves.{HALF}
 use Rattle.words.proofs.Tests.{both}
-use Rattle.words.proofs.Each.{Each, Words, each-append, each-left, each-right, each-without, each-map}
+use Rattle.words.proofs.Each.{Each, Words, each-append, each-without, each-map}
 use Rattle.words.proofs.Halves.{Different, different-append, different-without}
 use Rattle.layout.specs.State.{Text, Pool, program, flat, valuesOf, values}
 use Rattle.layout.specs.Limits.{TEXTS, STATEMENTS, VALUES, room}

@@ -1,14 +1,12 @@
 -- Packing and unpacking: a legal name comes back, and so do the words that hold one. Assumes nothing.
-use mathlib.Core.Path.{_≡_, refl, sym, ap, ap₂, _∙_}
+use mathlib.Core.Path.{_≡_, refl, sym, ap, _∙_}
 use mathlib.Core.Bool.{Bool, true, false, _&&_}
 use mathlib.Core.List.{List, [], _∷_, _++_}
 use Prim.Native.Nat.{ℕ, zero, suc, _+_, _*_, _/_, _%_, _≤_, _<_}
-use native.Mathlib.Numerals.{add-one}
-use native.Mathlib.Nat.{le-of-suc-le-suc, not-suc-le-zero}
 use native.Mathlib.Omega.{arith}
-use borrow.Author.Tests.{eqb-true, eq-eqb, leb-true, le-leb, ltb-true, ltb-false}
+use borrow.Author.Tests.{eqb-true, leb-true, le-leb, ltb-true, ltb-false}
 use lib.Dec.{eqb, leb, ltb, lit<}
-use lib.ListN.{length, take, drop, getD, length-append, List·getD-eq-default, List·getD-append}
+use lib.ListN.{length, drop, getD, length-append, List·getD-eq-default}
 use Rattle.plain.specs.Choice.{if_then_else_}
 use Rattle.plain.specs.Runs.{run, skip}
 use Rattle.plain.specs.Bytes.{within}
@@ -16,7 +14,7 @@ use Rattle.plain.proofs.Runs.{run-skip, run-length}
 use Rattle.text.specs.Classes.{nameByte}
 use Rattle.text.specs.Statements.{NAME}
 use Rattle.words.specs.Halves.{all}
-use Rattle.words.proofs.Tests.{both, first-then, true-false}
+use Rattle.words.proofs.Tests.{both, first-then}
 use Rattle.words.proofs.Each.{Each, Words, WORD, all-each, each-all, each-at}
 use Rattle.words.proofs.Steps.{drop-next, drop-end}
 use Rattle.layout.specs.Limits.{NAMEWORDS}

@@ -1,5 +1,5 @@
 -- What an undamaged memory is, as facts: each condition of document 01 one field. Assumes nothing.
-use mathlib.Core.Path.{_≡_, refl, sym, ap, _∙_}
+use mathlib.Core.Path.{_≡_, refl, sym, _∙_}
 use mathlib.Core.Bool.{Bool, true, false, _&&_}
 use mathlib.Core.List.{List, [], _∷_, map}
 use Prim.Native.Nat.{ℕ, _≤_}
@@ -7,7 +7,7 @@ use borrow.Author.Tests.{eqb-true, leb-true, eq-eqb, le-leb}
 use lib.Dec.{eqb, leb}
 use lib.ListN.{length, take, drop}
 use Rattle.plain.specs.Choice.{if_then_else_}
-use Rattle.words.specs.Halves.{upper, lower, sum, distinct, all}
+use Rattle.words.specs.Halves.{upper, lower, sum, all}
 use Rattle.words.proofs.Tests.{both, first-then}
 use Rattle.words.proofs.Each.{Each, each-weaken, all-each, each-all}
 use Rattle.words.proofs.Halves.{Different, distinct-different, different-distinct}

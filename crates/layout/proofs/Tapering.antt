@@ -1,11 +1,11 @@
 -- A word that holds name bytes and zeros after them, and words one after the other that do. Assumes nothing.
-use mathlib.Core.Path.{_≡_, refl, sym, ap, ap₂, _∙_}
+use mathlib.Core.Path.{_≡_, refl, sym, ap, _∙_}
 use mathlib.Core.Bool.{Bool, true, false, _&&_}
 use mathlib.Core.List.{List, [], _∷_, _++_}
-use Prim.Native.Nat.{ℕ, zero, suc, _+_, _*_, _/_, _%_, _≤_, _<_}
+use Prim.Native.Nat.{ℕ, suc, _+_, _*_, _/_, _%_, _<_}
 use native.Mathlib.Nat.{div-lt-iff-lt-mul, mod-eq-of-lt}
 use native.Mathlib.Omega.{arith}
-use borrow.Author.Tests.{eqb-true, eq-eqb, eqb-false, ne-eqb, lt-leb, le-leb}
+use borrow.Author.Tests.{eqb-true, eqb-false, le-leb}
 use lib.Dec.{T, eqb, leb, ltb, lit<}
 use lib.ListN.{length, getD}
 use Rattle.plain.specs.Choice.{if_then_else_}

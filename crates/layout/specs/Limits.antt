@@ -1,7 +1,6 @@
 -- The limits of a pool, and the places of its areas in memory (docs/LAYOUT.md). Definitions only.
 use Prim.Native.Nat.{ℕ}
 use mathlib.Core.Bool.{Bool, _&&_}
-use mathlib.Core.List.{List}
 use lib.Dec.{leb}
 use lib.ListN.{length}
 use Rattle.layout.specs.State.{Pool, program, values}
@@ -40,3 +39,7 @@ WORDS = 5651
 -- the limits are kept
 unfoldable pub room : Pool → Bool
 room s = leb (length s) TEXTS && leb (length (program s)) STATEMENTS && leb (length (values s)) VALUES
+
+-- the longest text, in bytes
+abbrev pub LONGEST : ℕ
+LONGEST = 65536

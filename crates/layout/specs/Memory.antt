@@ -1,5 +1,5 @@
 -- The memory of a pool, word by word (docs/LAYOUT.md): `decode` reads the texts that it holds, `put` writes them. Definitions only.
-use Prim.Native.Nat.{ℕ, _+_, _*_}
+use Prim.Native.Nat.{ℕ, _*_}
 use mathlib.Core.List.{List, [], _∷_, map}
 use lib.Dec.{eqb}
 use lib.ListN.{length, take, drop, getD}
@@ -9,7 +9,7 @@ use Rattle.text.specs.declared.statements.Operator.{Operator}
 use Rattle.text.specs.declared.statements.Operator.the-variants.{Direct, Append}
 use Rattle.words.specs.Over.{over, part}
 use Rattle.words.specs.Halves.{upper, lower, joined}
-use Rattle.layout.specs.State.{Text, Pool, program, flat, valuesOf, values}
+use Rattle.layout.specs.State.{Text, Pool, program, flat, values}
 use Rattle.layout.specs.Limits.{TEXTS-AT, HEADS-AT, NAMES-AT, VALUES-AT, NAMEWORDS}
 use Rattle.layout.specs.Names.{packed, unpacked}
 

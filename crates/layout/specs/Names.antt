@@ -1,9 +1,9 @@
 -- A name as four words: its bytes from the most significant down, zeros after it. Definitions only.
-use Prim.Native.Nat.{ℕ, zero, suc, _+_, _*_, _/_, _%_}
-use mathlib.Core.Bool.{Bool, true, false, _&&_}
+use Prim.Native.Nat.{ℕ, _+_, _*_, _/_, _%_}
+use mathlib.Core.Bool.{Bool, _&&_}
 use mathlib.Core.List.{List, [], _∷_, _++_}
 use lib.Dec.{eqb, leb}
-use lib.ListN.{length, take, drop, getD}
+use lib.ListN.{length, getD}
 use Rattle.plain.specs.Runs.{run, skip}
 use Rattle.plain.specs.Bytes.{within}
 use Rattle.text.specs.Classes.{nameByte}

@@ -2,14 +2,14 @@
 use mathlib.Core.Path.{_≡_, refl, sym, ap, ap₂, subst, _∙_}
 use mathlib.Core.Bool.{Bool, true, false, not, cond}
 use mathlib.Core.List.{List, [], _∷_, map}
-use Prim.Native.Nat.{ℕ, zero, suc, _+_, _*_, _/_, _%_, _≤_, _<_}
+use Prim.Native.Nat.{ℕ, zero, suc, _+_, _/_, _%_, _<_}
 use native.Mathlib.Omega.{arith}
 use borrow.Author.Tests.{ltb-true, ne-eqb}
-use lib.Dec.{T, eqb, ltb}
-use lib.Ieee.{Float, nan, inf, fin, Format, binary64, prec, low, hid, ones, top, odd, ofFields, ofBits, toBits, isNan}
+use lib.Dec.{T, eqb}
+use lib.Ieee.{nan, inf, Format, binary64, prec, low, hid, ones, top, odd, ofFields, ofBits, isNan}
 use lib.Ieee.Bits.{toBits-ofBits}
 use Rattle.words.specs.Halves.{all}
-use Rattle.words.proofs.Each.{WORD, Words, Each, each-all, each-map}
+use Rattle.words.proofs.Each.{Words, Each}
 use Rattle.layout.specs.Damage.{exponentField, small}
 use Rattle.listing.specs.Shows.{bitsOf}
 

@@ -1,5 +1,5 @@
 -- No listing is longer than the room for it. Assumes nothing.
-use mathlib.Core.Path.{_≡_, refl, sym, ap, _∙_}
+use mathlib.Core.Path.{_≡_, refl}
 use mathlib.Core.List.{List, [], _∷_, _++_}
 use Prim.Native.Nat.{ℕ, zero, suc, _+_, _*_, _/_, _%_, _≤_}
 use native.Mathlib.Omega.{arith}
@@ -13,8 +13,7 @@ use Rattle.layout.proofs.Sound.{Sound}
 use Rattle.layout.proofs.Legal.{Fair}
 use Rattle.layout.proofs.Names.{legible-of}
 use Rattle.layout.proofs.Holds.{decode-legal, decode-fits}
-use Rattle.pool.specs.Variables.{variable}
-use Rattle.pool.specs.declared.reply.Reply.{Reply}
+use Rattle.variables.specs.Variables.{variable}
 use Rattle.print.specs.Digits.{digitOf, digits}
 use Rattle.listing.specs.Figures.{decimal, bits}
 use Rattle.listing.specs.Listing.{VARIABLES, VALUES, LINE, REFUSED, entry, namesIn, valuesOf, counts, bitLines, shown}

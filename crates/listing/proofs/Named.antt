@@ -1,8 +1,8 @@
 -- The names at places: which there are, and how they compare. Assumes nothing.
 use mathlib.Core.Path.{_≡_, refl, sym, ap, _∙_}
-use mathlib.Core.Bool.{Bool, true, false}
-use mathlib.Core.List.{List, [], _∷_, _++_, map}
-use Prim.Native.Nat.{ℕ, zero, suc, _+_, _*_, _≤_, _<_}
+use mathlib.Core.Bool.{true}
+use mathlib.Core.List.{List, [], _∷_}
+use Prim.Native.Nat.{ℕ, zero, suc, _+_, _*_, _<_}
 use native.Mathlib.Nat.{not-suc-le-zero, le-of-suc-le-suc}
 use native.Mathlib.Omega.{arith}
 use borrow.Author.Tests.{ltb-true}
@@ -10,11 +10,10 @@ use lib.Dec.{ltb}
 use lib.ListN.{length, take, drop, getD, length-drop, length-map, List·getD-map}
 use lib.Seq.{length-take-le, getD-take, drop-drop}
 use Rattle.plain.specs.Lists.{equal}
-use Rattle.words.specs.Over.{part}
-use Rattle.words.proofs.Each.{WORD, Words, Each, all-each, each-at, each-take, each-drop}
+use Rattle.words.proofs.Each.{WORD, Words, all-each, each-at, each-take, each-drop}
 use Rattle.words.proofs.Steps.{drop-next, drop-end}
 use Rattle.layout.specs.Limits.{NAMEWORDS}
-use Rattle.layout.specs.Names.{unpacked, holdsName}
+use Rattle.layout.specs.Names.{unpacked}
 use Rattle.listing.specs.Order.{before, inserted}
 use Rattle.listing.specs.Places.{Legible, Places, nameCount, wordsAt, nameAt, namesAt, cutNames, ordered}
 use Rattle.listing.proofs.Packed.{before-unpacked, equal-unpacked}

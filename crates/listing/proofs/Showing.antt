@@ -17,18 +17,18 @@ use Rattle.words.proofs.Each.{words-of}
 use Rattle.layout.specs.State.{Pool}
 use Rattle.layout.specs.Limits.{STATEMENTS, VALUES}
 use Rattle.layout.specs.Memory.{nameWords, decode}
-use Rattle.layout.specs.Damage.{Sized, sound}
+use Rattle.layout.specs.Damage.{Sized}
 use Rattle.layout.proofs.Sound.{Sound, sound-of}
 use Rattle.layout.proofs.Holds.{decode-fits}
 use Rattle.listing.specs.Listing as listing
 use Rattle.listing.specs.Listing.{VARIABLES, entry, namesIn, valuesOf, counts, bitLines, shown}
 use Rattle.listing.specs.Pen.{Room, Writes}
-use Rattle.listing.specs.Places.{Places, Ordering, Orders, nameCount, namesAt}
+use Rattle.listing.specs.Places.{Places, Ordering, Orders}
 use Rattle.listing.specs.Shows.{listed, doublesOf, bitsOf, Counting, Counts, Printing, Showing}
 use Rattle.listing.specs.declared.show.Ends.{Ends}
 use Rattle.listing.proofs.Raising.{take-over-through}
 use Rattle.listing.proofs.Named.{length-namesAt}
-use Rattle.listing.proofs.Writing.{writes-length, room-first, room-then, writes-then}
+use Rattle.listing.proofs.Writing.{room-first, room-then, writes-then}
 use Rattle.listing.proofs.Together.{values-few}
 use Rattle.listing.proofs.Held.{name-count, legible, ordered-names, small-values, word-values}
 use Rattle.listing.proofs.Doubles.{bits-back, numbers}

@@ -1,18 +1,17 @@
 -- The variables of statements have together no more values than the statements, and no others. Assumes nothing.
-use mathlib.Core.Path.{_≡_, refl, sym, ap, subst, _∙_}
+use mathlib.Core.Path.{_≡_, refl, sym, ap, subst}
 use mathlib.Core.Bool.{Bool, true, false}
 use mathlib.Core.List.{List, [], _∷_, _++_}
 use Prim.Native.Nat.{ℕ, _+_, _≤_}
 use native.Mathlib.Omega.{arith}
 use lib.ListN.{length, length-append}
 use Rattle.plain.specs.Choice.{if_then_else_}
-use Rattle.plain.specs.Lists.{equal}
 use Rattle.text.specs.Statements.{Statement}
 use Rattle.words.proofs.Each.{Each, each-append}
 use Rattle.words.proofs.Same.{same-equal}
 use Rattle.layout.specs.State.{Pool, program, flat, valuesOf, values}
-use Rattle.pool.specs.Variables.{has, assigns, any, since, gives, variable}
-use Rattle.listing.specs.Order.{before, names}
+use Rattle.variables.specs.Variables.{has, assigns, any, since, gives, variable}
+use Rattle.listing.specs.Order.{before}
 use Rattle.listing.specs.Listing.{namesIn}
 use Rattle.listing.specs.Listing as listing
 use Rattle.listing.proofs.Rising.{Rising, rising-names, before-not-equal}

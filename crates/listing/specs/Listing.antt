@@ -6,7 +6,7 @@ use lib.ListN.{length}
 use Rattle.plain.specs.Bytes.{LF, SPACE}
 use Rattle.layout.specs.State.{Pool, program, flat}
 use Rattle.pool.specs.Replies.{replyNumber, replyLine}
-use Rattle.pool.specs.Variables.{variable}
+use Rattle.variables.specs.Variables.{variable}
 use Rattle.pool.specs.Load.{textOf, with, loadAnswer}
 use Rattle.pool.specs.declared.reply.Reply.{Reply}
 use Rattle.pool.specs.declared.reply.Reply.the-variants.{Done, Refused}

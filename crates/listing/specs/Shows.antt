@@ -1,5 +1,5 @@
 -- What the functions do that list the variables and values of an undamaged pool, and what they need. Definitions only.
-use Prim.Native.Nat.{ℕ, _+_, _≤_, _<_}
+use Prim.Native.Nat.{ℕ, _+_, _≤_}
 use mathlib.Core.Path.{_≡_}
 use mathlib.Core.Bool.{true, not}
 use mathlib.Core.List.{List, map}
@@ -11,10 +11,10 @@ use Rattle.layout.specs.Limits.{NAMEWORDS}
 use Rattle.layout.specs.Names.{unpacked}
 use Rattle.layout.specs.Memory.{nameWords, decode}
 use Rattle.layout.specs.Damage.{sound}
-use Rattle.pool.specs.Variables.{variable}
-use Rattle.pool.specs.Fetch.{doubles}
-use Rattle.pool.specs.declared.variable.Found.{Found}
-use Rattle.pool.specs.declared.variable.Found.the-variants.{Count, TooMany, Absent}
+use Rattle.variables.specs.Variables.{variable}
+use Rattle.variables.specs.Found.{doubles}
+use Rattle.variables.specs.declared.variable.Found.{Found}
+use Rattle.variables.specs.declared.variable.Found.the-variants.{Count, TooMany, Absent}
 use Rattle.listing.specs.Listing.{entry, valuesOf, counts, bitLines, shown}
 use Rattle.listing.specs.Pen.{Room, Writes}
 use Rattle.listing.specs.Places.{Places, namesAt}

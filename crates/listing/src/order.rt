@@ -4,10 +4,10 @@ use crate::names::stands_before;
 use layout::limits::NAMEWORDS;
 use words::compare::same;
 ghost use mathlib.Core.Path.{_≡_};
-ghost use Prim.Native.Nat.{_*_, _≤_, _<_};
+ghost use Prim.Native.Nat.{_≤_, _<_};
 ghost use lib.ListN.{length};
 ghost use Rattle.layout.specs.Limits.{NAMEWORDS};
-ghost use Rattle.listing.specs.Places.{Legible, Places, Inserting, Inserts, Ordering, Orders, nameCount, nameAt, namesAt, spot, raised};
+ghost use Rattle.listing.specs.Places.{Inserting, Inserts, Ordering, Orders, nameAt, namesAt, spot, raised};
 
 // Where a name belongs among names in order, if it is not held yet.
 pub enum Spot {

@@ -6,6 +6,7 @@ use mathlib.Core.List.{List, [], _∷_}
 use lib.ListN.{length, length-append}
 use Rattle.text.specs.Statements.{Event, Statement, statements, openings, givings}
 use Rattle.text.specs.Text.{Read, fine, readText}
+use Rattle.text.specs.Text as T
 use Rattle.text.proofs.Counts.{total, statements-counted, values-counted}
 use Rattle.text.proofs.Legal.{none-loose}
 use Rattle.words.specs.Halves.{HALF}
@@ -20,11 +21,10 @@ use Rattle.layout.proofs.Columns.{addColumns}
 use Rattle.layout.proofs.Holds.{holds-decode, perText, perStatement, length-laid-texts, length-laid-heads}
 use Rattle.layout.proofs.Legal.{fits-of}
 use Rattle.layout.proofs.Sound.{sound-of}
-use Rattle.pool.specs.Load as L
-use Rattle.pool.specs.Load.{textOf, with}
-use Rattle.pool.specs.Writing.{Page, page, penBehind, writtenOn}
-use Rattle.pool.specs.Pens.{Admits, Accepts}
-use Rattle.pool.specs.declared.pen.Pen.{Pen}
+use Rattle.pool.specs.Load.{textOf, with, Accepts}
+use Rattle.writing.specs.Writing.{Page, page, penBehind, writtenOn}
+use Rattle.writing.specs.Pens.{Admits}
+use Rattle.writing.specs.declared.pen.Pen.{Pen}
 use Rattle.pool.proofs.Laid.{laidOn, Apart, all-written}
 use Rattle.pool.proofs.Rooms.{Leaves, fits-leaves, texts-with, statements-with, values-with}
 
@@ -90,7 +90,7 @@ module _ (label : ℕ) (bytes : List ℕ) (n k : ℕ) (m : List ℕ) (a : Accept
   -- what is written, with the text's word before it and the totals behind it
   pub added-put : Words m → (m1 m3 m4 : List ℕ) (pen end : Pen) → pen ≡ penBehind (statementCount m) (valueCount m)
       → m1 ≡ over (TEXTS-AT + textCount m) ((label * HALF + n) ∷ []) m
-      → page m3 end ≡ writtenOn (L.added (readText bytes)) (page m1 pen)
+      → page m3 end ≡ writtenOn (T.added (readText bytes)) (page m1 pen)
       → m4 ≡ over 0 ((textCount m + 1) ∷ (statementCount m + n) ∷ (valueCount m + k) ∷ []) m3
       → m4 ≡ put (with (decode m) (textOf label bytes)) m
   added-put w m1 m3 m4 pen end p e1 e3 e4 =
@@ -105,7 +105,7 @@ module _ (label : ℕ) (bytes : List ℕ) (n k : ℕ) (m : List ℕ) (a : Accept
       let j : pen .values ≡ VALUES-AT + valueCount m = ap (λ (x : Pen). x .values) p in
       let c : length (statements es) ≡ n = statements-counted bytes es (a .reads) ∙ a .opens in
       let apart : Apart pen (length (statements es)) = record { some = omega arith; heads = omega (arith, l .statements); names = omega (arith, l .statements) } in
-      let r : writtenOn (L.added (readText bytes)) (page m1 pen) ≡ writtenOn es (page m1 pen) = ap (λ (x : Read). writtenOn (L.added x) (page m1 pen)) (a .reads) in
+      let r : writtenOn (T.added (readText bytes)) (page m1 pen) ≡ writtenOn es (page m1 pen) = ap (λ (x : Read). writtenOn (T.added x) (page m1 pen)) (a .reads) in
       let x3 : m3 ≡ laidOn (t .body) (page m1 pen) =
       ap (λ (x : Page). x .memory) (e3 ∙ r) ∙ all-written es (page m1 pen) (none-loose bytes es (a .reads)) apart ∙ ap (λ (ss : List Statement). laidOn ss (page m1 pen)) (sym (body-read label bytes es (a .reads))) in
       let x4 : laidOn (t .body) (page m1 pen) ≡ addColumns perStatement (program s) (t .body) m1 = behind-columns (program s) (t .body) m1 pen

@@ -1,11 +1,10 @@
 -- Putting no texts writes the totals alone; so make empty and clear leave an undamaged memory that holds nothing. Assumes nothing.
-use mathlib.Core.Path.{_≡_, refl, sym, ap, subst, _∙_}
-use mathlib.Core.Bool.{Bool, true, false}
+use mathlib.Core.Path.{_≡_, ap, _∙_}
+use mathlib.Core.Bool.{true, false}
 use mathlib.Core.List.{List, [], _∷_}
 use Prim.Native.Nat.{ℕ}
 use borrow.Author.Tests.{eq-eqb, ne-eqb, eqb-true}
 use lib.ListN.{length}
-use Rattle.plain.specs.Choice.{if_then_else_}
 use Rattle.refusal.specs.declared.Refusal.the-variants.{DamagedPool}
 use Rattle.words.specs.Over.{over}
 use Rattle.words.proofs.Over.{over-nil}
@@ -17,7 +16,7 @@ use Rattle.layout.specs.Damage.{sized, sound}
 use Rattle.layout.proofs.Sound.{sound-of}
 use Rattle.layout.proofs.Legal.{fits-none, legal-none, bounded-none}
 use Rattle.layout.proofs.Holds.{decode-put, put-sound, put-words}
-use Rattle.pool.specs.Replies.{done, refusing}
+use Rattle.pool.specs.Replies.{refusing}
 use Rattle.pool.specs.Empty.{emptyReply, clearReply, emptied, Empties, Clears}
 use Rattle.pool.specs.declared.reply.Reply.the-variants.{Done}
 

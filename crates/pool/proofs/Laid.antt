@@ -17,9 +17,9 @@ use Rattle.layout.specs.Names.{packed}
 use Rattle.layout.specs.Memory.{operatorNumber, headWord, nameOf}
 use Rattle.layout.proofs.Codec.{length-laid-names}
 use Rattle.layout.proofs.Holds.{length-laid-heads}
-use Rattle.pool.specs.Writing.{Page, bareHead, openedOn, toldOn, givenOn, writtenOn}
-use Rattle.pool.specs.declared.pen.Pen.{Pen}
-use Rattle.pool.proofs.Pages.{over-again}
+use Rattle.writing.specs.Writing.{Page, bareHead, openedOn, toldOn, givenOn, writtenOn}
+use Rattle.writing.specs.declared.pen.Pen.{Pen}
+use Rattle.writing.proofs.Pages.{over-again}
 
 abbrev heads : List Statement → List ℕ
 heads ss = flat (λ x. headWord x ∷ []) ss

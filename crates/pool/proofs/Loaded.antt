@@ -13,14 +13,14 @@ use Rattle.text.specs.Text.{Read, fine, refused, readText}
 use Rattle.words.proofs.Each.{Each}
 use Rattle.words.proofs.Tests.{true-false}
 use Rattle.layout.specs.State.{Pool}
-use Rattle.layout.specs.Limits.{room}
+use Rattle.layout.specs.Limits.{room, LONGEST}
 use Rattle.layout.specs.Memory.{decode, put}
 use Rattle.layout.specs.Damage.{sound}
 use Rattle.layout.proofs.Holds.{decode-legal, decode-put, put-sound}
 use Rattle.layout.proofs.Legal.{Fair, Legal, fits-of, legal-add}
 use Rattle.layout.proofs.Sound.{sound-of}
 use Rattle.pool.specs.Replies.{done, refusing}
-use Rattle.pool.specs.Load.{LONGEST, held, textOf, with, admitted, loadAnswer, loadReply, loadMemory}
+use Rattle.pool.specs.Load.{held, textOf, with, admitted, loadAnswer, loadReply, loadMemory}
 use Rattle.pool.proofs.Adding.{body-read}
 use Rattle.pool.proofs.Admitted.{text-fair}
 

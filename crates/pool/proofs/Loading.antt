@@ -14,12 +14,11 @@ use Rattle.text.specs.Text.{Read, fine, refused, readText, tallied}
 use Rattle.text.specs.declared.Checked.the-variants as C
 use Rattle.text.specs.declared.faults.Fault.{Fault}
 use Rattle.layout.specs.State.{flat, valuesOf}
-use Rattle.layout.specs.Limits.{room}
+use Rattle.layout.specs.Limits.{room, LONGEST}
 use Rattle.layout.specs.Memory.{decode, put}
 use Rattle.layout.specs.Damage.{sound}
 use Rattle.pool.specs.Replies.{refusing}
-use Rattle.pool.specs.Load.{LONGEST, held, textOf, with, admitted, loadAnswer, loadReply, loadMemory, Loads}
-use Rattle.pool.specs.Pens.{Accepts}
+use Rattle.pool.specs.Load.{held, textOf, with, admitted, loadAnswer, loadReply, loadMemory, Loads, Accepts}
 use Rattle.pool.specs.declared.reply.Reply.the-variants.{Done, Refused}
 use Rattle.pool.proofs.Adding.{body-counted, body-valued}
 

@@ -1,14 +1,14 @@
 -- A held label: where its text stands, in the state and in the texts' words, and the state without it. Assumes nothing.
-use mathlib.Core.Path.{_≡_, refl, sym, ap, ap₂, _∙_}
+use mathlib.Core.Path.{_≡_, refl, sym, ap}
 use mathlib.Core.Bool.{Bool, true, false}
-use mathlib.Core.List.{List, [], _∷_, _++_, map}
+use mathlib.Core.List.{[], _∷_, _++_, map}
 use Prim.Native.Nat.{ℕ, suc, _+_, _≤_, _<_}
 use native.Mathlib.Omega.{arith}
 use borrow.Author.Tests.{eqb-false}
 use lib.Dec.{eqb}
 use lib.ListN.{length, length-append}
 use Rattle.plain.specs.Choice.{if_then_else_}
-use Rattle.words.specs.Halves.{upper, place}
+use Rattle.words.specs.Halves.{place}
 use Rattle.words.proofs.Tests.{true-false}
 use Rattle.words.proofs.Each.{Each}
 use Rattle.words.proofs.Halves.{upper-joined}

@@ -1,29 +1,25 @@
 -- Taking out the text at a place is putting the state without it: the numbers that the code sums up are the lengths of what stands
 -- before the gap, in it and after it. Assumes nothing.
-use mathlib.Core.Path.{_≡_, refl, sym, ap, ap₂, subst, _∙_}
-use mathlib.Core.Bool.{Bool, true, false}
-use mathlib.Core.List.{List, [], _∷_, _++_, map}
-use Prim.Native.Nat.{ℕ, suc, _+_, _-_, _*_, _≤_, _<_}
+use mathlib.Core.Path.{_≡_, sym, ap, ap₂, subst, _∙_}
+use mathlib.Core.List.{List, [], _∷_, _++_}
+use Prim.Native.Nat.{ℕ, suc, _+_, _-_, _<_}
 use native.Mathlib.Nat.{add-zero}
 use native.Mathlib.Omega.{arith}
-use lib.ListN.{length, take, drop, getD, length-append, length-drop}
-use lib.Seq.{getD-take, getD-drop, length-take-le, split-at}
+use lib.ListN.{length, drop, getD, length-append}
+use lib.Seq.{getD-take, getD-drop}
 use Rattle.text.specs.Statements.{Statement}
-use Rattle.words.specs.Halves.{HALF, upper, lower, sum}
+use Rattle.words.specs.Halves.{HALF, lower, sum}
 use Rattle.words.specs.Over.{over, part}
 use Rattle.words.proofs.Halves.{lower-joined}
-use Rattle.words.proofs.Each.{Words}
 use Rattle.layout.specs.State.{Text, Pool, program, flat, valuesOf, values}
-use Rattle.layout.specs.Limits.{WORDS, NAMEWORDS, TEXTS-AT, HEADS-AT, NAMES-AT, VALUES-AT}
-use Rattle.layout.specs.Memory.{textCount, statementCount, valueCount, textWord, headWord, nameOf, totals, decode, put}
-use Rattle.layout.specs.Damage.{Sized}
+use Rattle.layout.specs.Limits.{TEXTS-AT, HEADS-AT, NAMES-AT, VALUES-AT}
+use Rattle.layout.specs.Memory.{textCount, statementCount, valueCount, textWord, headWord, put}
 use Rattle.layout.proofs.Columns.{At, at-left, at-right, closeColumns, flat-append, flat-map}
-use Rattle.layout.proofs.Codec.{Short, ShortText, each-short, each-short-text, sum-texts, sum-heads, length-laid-names}
+use Rattle.layout.proofs.Codec.{each-short, each-short-text, sum-texts, sum-heads, length-laid-names}
 use Rattle.layout.proofs.Legal.{program-append, values-append}
-use Rattle.layout.proofs.Sound.{Sound}
-use Rattle.layout.proofs.Holds.{Holds, perText, perStatement, holds-texts, holds-statements, length-laid-texts, length-laid-heads, holds-sized, holds-decode}
+use Rattle.layout.proofs.Holds.{Holds, perText, perStatement, holds-texts, holds-statements, length-laid-texts, length-laid-heads, holds-sized}
 use Rattle.layout.proofs.Changes as changes
-use Rattle.pool.specs.Gaps.{textGap, statementGap, valueGap, statementsBefore, statementsInside, valuesBefore, valuesInside, closing, fourfold, left, whole, closed, takenOut, Spanned, Gapped}
+use Rattle.pool.specs.Gaps.{textGap, statementGap, valueGap, statementsBefore, statementsInside, valuesBefore, valuesInside, closing, left, closed, takenOut, Gapped}
 use Rattle.pool.specs.declared.gap.Gap.{Gap}
 
 -- the words that a text and a statement have in their first columns

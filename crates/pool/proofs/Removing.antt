@@ -4,13 +4,12 @@ use mathlib.Core.Bool.{Bool, true, false}
 use mathlib.Core.List.{List, [], _∷_, _++_, map}
 use Prim.Native.Nat.{ℕ, _≤_, _<_}
 use native.Mathlib.Omega.{arith}
-use lib.ListN.{length, length-append}
+use lib.ListN.{length}
 use Rattle.plain.specs.Choice.{if_then_else_}
 use Rattle.refusal.specs.declared.Refusal.the-variants.{NotHeld, DamagedPool}
-use Rattle.words.specs.Halves.{HALF, place}
+use Rattle.words.specs.Halves.{place}
 use Rattle.words.proofs.Each.{Each, Words}
-use Rattle.layout.specs.State.{Text, Pool, program}
-use Rattle.layout.specs.Limits.{STATEMENTS}
+use Rattle.layout.specs.State.{Pool}
 use Rattle.layout.specs.Memory.{textCount, textWords, textWord, decode, put}
 use Rattle.layout.specs.Damage.{sound}
 use Rattle.layout.proofs.Sound.{Sound, sound-of}

@@ -1,15 +1,14 @@
 -- The totals' words of an undamaged memory are the counts of the texts that it holds. Assumes nothing.
-use mathlib.Core.Path.{_≡_, refl, sym}
+use mathlib.Core.Path.{_≡_, sym}
 use mathlib.Core.Bool.{true, false}
 use mathlib.Core.List.{List}
 use Prim.Native.Nat.{ℕ}
-use Rattle.plain.specs.Choice.{if_then_else_}
 use Rattle.refusal.specs.declared.Refusal.the-variants.{DamagedPool}
 use Rattle.layout.specs.Memory.{textCount, statementCount, valueCount}
 use Rattle.layout.specs.Damage.{sound}
-use Rattle.layout.proofs.Sound.{Sound, sound-of}
+use Rattle.layout.proofs.Sound.{sound-of}
 use Rattle.layout.proofs.Holds.{length-decode, length-program, length-held}
-use Rattle.pool.specs.Totals.{counts, totalsReply, Totals}
+use Rattle.pool.specs.Totals.{totalsReply, Totals}
 use Rattle.pool.specs.declared.reply.Counts.the-variants.{Held, Refused}
 
 module _ (m : List ℕ) where

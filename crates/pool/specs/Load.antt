@@ -1,6 +1,6 @@
 -- Load: "a text is accepted exactly when its label is not held, the rules admit it and the undamaged pool has room." "Order: 15 first;
 -- then by call 1, 2, the first faulty line .., 7." Definitions only.
-use Prim.Native.Nat.{ℕ}
+use Prim.Native.Nat.{ℕ, _≤_}
 use mathlib.Core.Path.{_≡_}
 use mathlib.Core.Bool.{Bool, true, false}
 use mathlib.Core.List.{List, [], _∷_, _++_}
@@ -9,29 +9,20 @@ use lib.ListN.{length}
 use Rattle.plain.specs.Choice.{if_then_else_}
 use Rattle.refusal.specs.declared.Refusal.the-variants.{LabelHeld, TextTooLong, NoRoom, DamagedPool}
 use Rattle.text.specs.Faults.{refusalOf}
-use Rattle.text.specs.Statements.{Event, statements}
-use Rattle.text.specs.Text.{Read, fine, refused, readText}
+use Rattle.text.specs.Statements.{Event, statements, openings, givings}
+use Rattle.text.specs.Text.{Read, fine, refused, readText, added}
 use Rattle.layout.specs.State.{Text, Pool}
-use Rattle.layout.specs.Limits.{room}
+use Rattle.layout.specs.Limits.{room, LONGEST}
 use Rattle.layout.specs.Memory.{decode, put}
 use Rattle.layout.specs.Damage.{sound}
 use Rattle.pool.specs.Replies.{done, refusing}
 use Rattle.pool.specs.declared.reply.Reply.{Reply}
 use Rattle.pool.specs.declared.reply.Reply.the-variants.{Done, Refused}
 
--- the longest text, in bytes
-abbrev pub LONGEST : ℕ
-LONGEST = 65536
-
 -- the label is held
 unfoldable pub held : ℕ → Pool → Bool
 held label [] = false
 held label (t ∷ ts) = if eqb (t .label) label then true else held label ts
-
--- what a text adds, if the rules admit it
-abbrev pub added : Read → List Event
-added (fine es) = es
-added (refused q line place) = []
 
 -- the text under its label
 unfoldable pub textOf : (label : ℕ) (bytes : List ℕ) → Text
@@ -66,3 +57,13 @@ loadMemory label bytes m = if done (loadReply label bytes m) then put (with (dec
 pub record Loads (label : ℕ) (bytes before : List ℕ) (r : Reply) (after : List ℕ) : Type 0 where
   pub reply : r ≡ loadReply label bytes before
   pub memory : after ≡ loadMemory label bytes before
+
+-- a text of so many statements and values is accepted
+pub record Accepts (label : ℕ) (bytes : List ℕ) (statements values : ℕ) (m : List ℕ) : Type 0 where
+  pub undamaged : sound m ≡ true
+  pub events : List Event
+  pub reads : readText bytes ≡ fine events
+  pub long : length bytes ≤ LONGEST
+  pub opens : openings events ≡ statements
+  pub gives : givings events ≡ values
+  pub roomy : room (with (decode m) (textOf label bytes)) ≡ true

@@ -1,9 +1,9 @@
 // Fetch a variable: "Order: 15 first; .. 13, 14".
 use crate::reply::Fetched;
-use crate::variable::Found;
-use crate::variable::variable;
 use layout::check::is_sound;
 use refusal::Refusal;
+use variables::variable::Found;
+use variables::variable::variable;
 ghost use mathlib.Core.Path.{_≡_};
 ghost use Rattle.pool.specs.Fetch.{fetched, Fetches};
 

@@ -13,7 +13,7 @@ use words::read::part_of;
 use words::scan::sum_lower;
 use words::write::shift;
 ghost use mathlib.Core.Path.{_≡_};
-ghost use Prim.Native.Nat.{_+_, _≤_, _<_};
+ghost use Prim.Native.Nat.{_+_, _≤_};
 ghost use lib.ListN.{length};
 ghost use Rattle.words.specs.Over.{part};
 ghost use Rattle.words.specs.Halves.{HALF, sum};

@@ -1,7 +1,5 @@
 // Load: document 01, "a text is accepted exactly when its label is not held, the rules admit it and the undamaged pool has room".
-use crate::pen::pen_behind;
 use crate::reply::Reply;
-use crate::write::write_text;
 use layout::area::texts_of;
 use layout::check::is_sound;
 use layout::limits::HALF;
@@ -19,6 +17,8 @@ use text::check;
 use text::faults::refusal_of;
 use words::scan::place_of;
 use words::write::store;
+use writing::pen::pen_behind;
+use writing::write::write_text;
 ghost use mathlib.Core.Path.{_≡_};
 ghost use mathlib.Core.Bool.{true};
 ghost use lib.ListN.{length};
@@ -26,8 +26,7 @@ ghost use Rattle.layout.specs.State.{Text, flat, valuesOf};
 ghost use Rattle.layout.specs.Limits.{room};
 ghost use Rattle.layout.specs.Memory.{decode, put};
 ghost use Rattle.layout.specs.Damage.{Sized, sound};
-ghost use Rattle.pool.specs.Load.{Loads, held, with, textOf};
-ghost use Rattle.pool.specs.Pens.{Accepts};
+ghost use Rattle.pool.specs.Load.{Loads, held, with, textOf, Accepts};
 
 // The longest text, in bytes.
 const LONGEST: usize = 65536;

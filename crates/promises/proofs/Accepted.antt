@@ -11,11 +11,11 @@ use Rattle.plain.specs.Choice.{if_then_else_}
 use Rattle.refusal.specs.declared.Refusal.the-variants.{LabelHeld, TextTooLong, DamagedPool}
 use Rattle.text.specs.Text.{Read, fine, refused, readText}
 use Rattle.layout.specs.State.{Pool}
-use Rattle.layout.specs.Limits.{room}
+use Rattle.layout.specs.Limits.{room, LONGEST}
 use Rattle.layout.specs.Memory.{decode}
 use Rattle.layout.specs.Damage.{sound}
 use Rattle.pool.specs.Replies.{done, refusing}
-use Rattle.pool.specs.Load.{LONGEST, held, textOf, with, admitted, loadAnswer, loadReply}
+use Rattle.pool.specs.Load.{held, textOf, with, admitted, loadAnswer, loadReply}
 use Rattle.pool.specs.declared.reply.Reply.{Reply}
 use Rattle.pool.specs.declared.reply.Reply.the-variants.{Done}
 use Rattle.promises.specs.Calls.{load, asked, library, accepted}

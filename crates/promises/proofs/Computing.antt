@@ -26,7 +26,7 @@ use Rattle.text.specs.Line.{answered}
 use Rattle.text.specs.Text.{Read, readFrom, readText}
 use Rattle.layout.specs.State.{Pool, program, flat}
 use Rattle.layout.specs.Limits.{room}
-use Rattle.pool.specs.Variables.{any, since, variable, present}
+use Rattle.variables.specs.Variables.{any, since, variable, present}
 use Rattle.pool.specs.Load.{held, textOf, loadAnswer}
 use Rattle.pool.specs.Remove.{without}
 use Rattle.pool.specs.declared.reply.Reply.{Reply}

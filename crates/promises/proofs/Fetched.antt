@@ -17,12 +17,13 @@ use Rattle.layout.specs.State.{Pool}
 use Rattle.layout.specs.Memory.{decode}
 use Rattle.layout.specs.Damage.{sound}
 use Rattle.pool.specs.Replies.{fetchedNumber, fetchedCount}
-use Rattle.pool.specs.Variables.{variable, present}
-use Rattle.pool.specs.Fetch.{doubles, foundIn, filled, fetched, fetchReply, fetchBuffer}
+use Rattle.variables.specs.Variables.{variable, present}
+use Rattle.variables.specs.Found.{doubles, foundIn, filled}
+use Rattle.pool.specs.Fetch.{fetched, fetchReply, fetchBuffer}
 use Rattle.pool.specs.declared.reply.Fetched.{Fetched}
 use Rattle.pool.specs.declared.reply.Fetched.the-variants.{Count, Refused}
-use Rattle.pool.specs.declared.variable.Found.{Found}
-use Rattle.pool.specs.declared.variable.Found.the-variants as W
+use Rattle.variables.specs.declared.variable.Found.{Found}
+use Rattle.variables.specs.declared.variable.Found.the-variants as W
 use Rattle.promises.specs.Calls.{asked, library}
 use Rattle.promises.specs.Demands.{FetchWrites}
 

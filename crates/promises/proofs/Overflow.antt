@@ -26,9 +26,9 @@ use Rattle.layout.specs.Damage.{small}
 use Rattle.layout.proofs.Sound.{sound-of}
 use Rattle.layout.proofs.Legal.{Fair}
 use Rattle.layout.proofs.Holds.{decode-legal}
-use Rattle.pool.specs.Variables.{has, assigns, any, since, gives, variable, present}
-use Rattle.pool.specs.Fetch.{doubles}
-use Rattle.pool.proofs.Presence.{absent-empty}
+use Rattle.variables.specs.Variables.{has, assigns, any, since, gives, variable, present}
+use Rattle.variables.specs.Found.{doubles}
+use Rattle.variables.proofs.Presence.{absent-empty}
 use Rattle.globe.specs.Names.{nameOf}
 use Rattle.globe.specs.Elements.{there, list, ANGLES, polynomial, fewValues, nutating, enoughAngles, wellCounted}
 use Rattle.globe.specs.Orientation.{orientationReply}

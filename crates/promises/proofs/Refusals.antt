@@ -16,12 +16,13 @@ use Rattle.pool.specs.Replies.{replyNumber, fetchedNumber, done}
 use Rattle.pool.specs.Empty.{emptyReply, clearReply}
 use Rattle.pool.specs.Load.{textOf, with, loadReply, loadMemory}
 use Rattle.pool.specs.Remove.{without, removeReply, removeMemory}
-use Rattle.pool.specs.Fetch.{doubles, foundIn, filled, fetched, fetchReply, fetchBuffer}
+use Rattle.variables.specs.Found.{doubles, foundIn, filled}
+use Rattle.pool.specs.Fetch.{fetched, fetchReply, fetchBuffer}
 use Rattle.pool.specs.declared.reply.Reply.{Reply}
 use Rattle.pool.specs.declared.reply.Reply.the-variants as R
 use Rattle.pool.specs.declared.reply.Fetched.the-variants as F
-use Rattle.pool.specs.declared.variable.Found.{Found}
-use Rattle.pool.specs.declared.variable.Found.the-variants as W
+use Rattle.variables.specs.declared.variable.Found.{Found}
+use Rattle.variables.specs.declared.variable.Found.the-variants as W
 use Rattle.promises.specs.Calls.{makeEmpty, load, remove, clear, fetch, totals, orientation, radii, asked, leaves, library}
 use Rattle.promises.specs.Demands.{RefusalChangesNothing}
 

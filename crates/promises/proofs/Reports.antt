@@ -19,12 +19,12 @@ use Rattle.text.specs.Text.{Read, fine, refused, readText}
 use Rattle.text.specs.declared.faults.Fault.{Fault}
 use Rattle.text.specs.declared.faults.Fault.the-variants as F
 use Rattle.text.proofs.FirstFault.{number-within}
-use Rattle.layout.specs.Limits.{room}
+use Rattle.layout.specs.Limits.{room, LONGEST}
 use Rattle.layout.specs.Memory.{decode}
 use Rattle.layout.specs.Damage.{sized, sound}
 use Rattle.pool.specs.Replies.{replyNumber, replyLine, refusing}
 use Rattle.pool.specs.Empty.{emptyReply, clearReply}
-use Rattle.pool.specs.Load.{LONGEST, held, textOf, with, admitted, loadAnswer, loadReply}
+use Rattle.pool.specs.Load.{held, textOf, with, admitted, loadAnswer, loadReply}
 use Rattle.pool.specs.Remove.{removeReply}
 use Rattle.pool.specs.declared.reply.Reply.{Reply}
 use Rattle.pool.specs.declared.reply.Reply.the-variants as R

@@ -18,7 +18,8 @@ use Rattle.pool.specs.Replies.{refusing}
 use Rattle.pool.specs.Empty.{emptyReply, clearReply}
 use Rattle.pool.specs.Load.{held, loadAnswer, loadReply}
 use Rattle.pool.specs.Remove.{removeReply}
-use Rattle.pool.specs.Fetch.{doubles, foundIn, filled, fetched, fetchReply, fetchBuffer}
+use Rattle.variables.specs.Found.{doubles, foundIn, filled}
+use Rattle.pool.specs.Fetch.{fetched, fetchReply, fetchBuffer}
 use Rattle.pool.specs.Totals.{counts, totalsReply}
 use Rattle.pool.specs.declared.reply.Reply.the-variants.{Done}
 use Rattle.globe.specs.Orientation.{orientationFrom, orientationReply}

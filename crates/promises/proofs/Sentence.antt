@@ -9,8 +9,8 @@ use Rattle.plain.specs.Choice.{if_then_else_}
 use Rattle.text.specs.Statements.{Statement}
 use Rattle.words.proofs.Tests.{true-false}
 use Rattle.layout.specs.State.{program, flat}
-use Rattle.pool.specs.Variables.{isDirect, has, assigns, any, since, gives, variable}
-use Rattle.pool.proofs.Since.{since-all}
+use Rattle.variables.specs.Variables.{isDirect, has, assigns, any, since, gives, variable}
+use Rattle.variables.proofs.Since.{since-all}
 use Rattle.promises.specs.Sentence.{given, LastDirect, NoDirect, Sentence, onto, forward, Forward}
 
 -- a statement with the name or without it, direct or appending, before a direct assignment or before none

@@ -7,7 +7,7 @@ use mathlib.Core.List.{List, []}
 use lib.ListN.{length}
 use Rattle.plain.specs.Choice.{if_then_else_}
 use Rattle.text.specs.Statements.{statements}
-use Rattle.text.specs.Text.{Read, fine, refused, readText}
+use Rattle.text.specs.Text.{Read, fine, refused, readText, added}
 use Rattle.words.proofs.Each.{Each}
 use Rattle.refusal.specs.declared.Refusal.the-variants.{NotHeld}
 use Rattle.layout.specs.State.{Pool, program, flat}
@@ -19,7 +19,7 @@ use Rattle.layout.proofs.Legal.{Fair, fits-of, of-fits}
 use Rattle.layout.proofs.Holds.{decode-fits, decode-legal, decode-put, put-sound}
 use Rattle.pool.specs.Replies.{done, refusing}
 use Rattle.pool.specs.Empty.{emptyReply, clearReply}
-use Rattle.pool.specs.Load.{held, textOf, with, added, admitted, loadAnswer, loadReply, loadMemory}
+use Rattle.pool.specs.Load.{held, textOf, with, admitted, loadAnswer, loadReply, loadMemory}
 use Rattle.pool.specs.Remove.{without, removeReply, removeMemory}
 use Rattle.pool.specs.declared.reply.Reply.the-variants.{Done}
 use Rattle.promises.specs.Calls as C

@@ -9,9 +9,9 @@ use Rattle.plain.specs.Choice.{if_then_else_}
 use Rattle.text.specs.Text.{readText}
 use Rattle.words.proofs.Each.{Each, each-append, each-right}
 use Rattle.layout.specs.State.{Pool, program, flat}
-use Rattle.layout.specs.Limits.{room}
+use Rattle.layout.specs.Limits.{room, LONGEST}
 use Rattle.pool.specs.Replies.{done}
-use Rattle.pool.specs.Load.{LONGEST, textOf, with, admitted}
+use Rattle.pool.specs.Load.{textOf, with, admitted}
 use Rattle.pool.specs.Remove.{without}
 use Rattle.promises.specs.Histories.{Loaded, removing, text}
 use Rattle.promises.proofs.Accepted.{Taken}

@@ -13,7 +13,8 @@ use Rattle.rotation.specs.declared.matrix.Orientation.{Orientation}
 use Rattle.rotation.specs.declared.table.Axes.{Axes}
 use Rattle.text.specs.Faults.{refusalOf}
 use Rattle.pool.specs.Replies.{countsTexts}
-use Rattle.pool.specs.Load.{LONGEST, loadAnswer, loadReply}
+use Rattle.layout.specs.Limits.{LONGEST}
+use Rattle.pool.specs.Load.{loadAnswer, loadReply}
 use Rattle.pool.specs.Totals.{counts}
 use Rattle.pool.specs.declared.reply.Counts.{Counts}
 use Rattle.pool.specs.declared.reply.Reply.the-variants.{Refused}

@@ -22,7 +22,8 @@ use Rattle.pool.specs.Replies.{refusing, replyNumber}
 use Rattle.pool.specs.Empty.{Empties, Clears, emptyReply, clearReply}
 use Rattle.pool.specs.Load.{Loads, loadReply, loadMemory}
 use Rattle.pool.specs.Remove.{Removes, removeReply}
-use Rattle.pool.specs.Fetch.{Fetches, foundIn, fetchReply, fetchBuffer}
+use Rattle.pool.specs.Fetch.{Fetches, fetchReply, fetchBuffer}
+use Rattle.variables.specs.Found.{foundIn}
 use Rattle.pool.specs.Totals.{Totals, totalsReply}
 use Rattle.pool.specs.declared.reply.Reply.the-variants.{Done}
 use Rattle.pool.specs.declared.reply.Fetched.{Fetched}

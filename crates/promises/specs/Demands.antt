@@ -32,13 +32,13 @@ use Rattle.text.specs.Statements.{Event}
 use Rattle.text.specs.Text.{fine, refused, readText}
 use Rattle.text.specs.declared.faults.Fault.{Fault}
 use Rattle.layout.specs.State.{Pool}
-use Rattle.layout.specs.Limits.{room}
+use Rattle.layout.specs.Limits.{room, LONGEST}
 use Rattle.layout.specs.Memory.{decode}
 use Rattle.layout.specs.Damage.{sound}
 use Rattle.pool.specs.Empty.{Empties, Clears}
-use Rattle.pool.specs.Load.{LONGEST, held, textOf, with, Loads}
+use Rattle.pool.specs.Load.{held, textOf, with, Loads}
 use Rattle.pool.specs.Remove.{Removes}
-use Rattle.pool.specs.Fetch as F
+use Rattle.variables.specs.Found as F
 use Rattle.pool.specs.Fetch.{Fetches}
 use Rattle.pool.specs.Totals.{Totals}
 use Rattle.pool.specs.declared.reply.Reply.{Reply}

@@ -11,7 +11,7 @@ use Rattle.plain.specs.Choice.{if_then_else_}
 use Rattle.layout.specs.State.{Text, Pool}
 use Rattle.layout.specs.Limits.{WORDS}
 use Rattle.pool.specs.Load.{textOf}
-use Rattle.pool.specs.Fetch.{doubles, foundIn, filled}
+use Rattle.variables.specs.Found.{doubles, foundIn, filled}
 use Rattle.pool.specs.Fetch as F
 use Rattle.pool.specs.Totals.{counts}
 use Rattle.promises.specs.Calls.{Call, makeEmpty, load, remove, clear, fetch, totals, orientation, radii, Answer, fetched, counted, Build, accepted}

@@ -23,7 +23,7 @@ use Rattle.decimal.specs.declared.Reading.the-variants as D
 use Rattle.layout.specs.State.{Pool}
 use Rattle.layout.specs.Damage.{sound}
 use Rattle.pool.specs.Replies.{replyNumber, replyLine, done}
-use Rattle.pool.specs.Variables.{variable}
+use Rattle.variables.specs.Variables.{variable}
 use Rattle.pool.specs.Load.{textOf, with, loadAnswer}
 use Rattle.pool.specs.Remove.{without}
 use Rattle.globe.specs.Orientation.{orientationFrom, orientationReply}

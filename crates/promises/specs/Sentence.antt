@@ -8,7 +8,7 @@ use mathlib.Core.List.{List, [], _∷_, _++_}
 use Rattle.plain.specs.Choice.{if_then_else_}
 use Rattle.text.specs.Statements.{Statement}
 use Rattle.layout.specs.State.{Pool, program, flat}
-use Rattle.pool.specs.Variables.{isDirect, has, assigns, any, gives, variable}
+use Rattle.variables.specs.Variables.{isDirect, has, assigns, any, gives, variable}
 
 -- the values of all statements with the name, in order
 abbrev pub given : List ℕ → List Statement → List ℕ

@@ -15,7 +15,8 @@ use Rattle.text.specs.Text.{refused, readText}
 use Rattle.text.specs.declared.faults.Fault.{Fault}
 use Rattle.layout.specs.Memory.{decode}
 use Rattle.layout.specs.Damage.{sound}
-use Rattle.pool.specs.Load.{LONGEST, held}
+use Rattle.layout.specs.Limits.{LONGEST}
+use Rattle.pool.specs.Load.{held}
 use Rattle.pool.specs.Totals.{counts}
 use Rattle.pool.specs.declared.reply.Counts.{Counts}
 use Rattle.pool.specs.declared.reply.Reply.the-variants.{Refused}

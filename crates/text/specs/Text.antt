@@ -47,3 +47,8 @@ readText text = readFrom R.Text 0 0 (lines text)
 abbrev pub tallied : Read → Checked
 tallied (fine es) = C.Admitted (openings es) (givings es)
 tallied (refused q n k) = C.Refused q n k
+
+-- what a text adds, if the rules admit it
+abbrev pub added : Read → List Event
+added (fine es) = es
+added (refused q line place) = []

@@ -1,16 +1,16 @@
 -- Words as two halves: joining and parting, sums of lists put together, places found, and repeats. Assumes nothing.
-use mathlib.Core.Path.{_≡_, refl, sym, ap, _∙_}
+use mathlib.Core.Path.{_≡_, refl, sym, ap}
 use mathlib.Core.Bool.{Bool, true, false}
 use mathlib.Core.List.{List, [], _∷_, _++_, map}
 use Prim.Native.Nat.{ℕ, zero, suc, _+_, _≤_, _<_}
 use native.Mathlib.Nat.{not-suc-le-zero, le-of-suc-le-suc, le-refl}
 use native.Mathlib.Omega.{arith}
-use borrow.Author.Tests.{lt-ltb, le-ltb, ltb-false, eqb-true, eq-eqb, ne-eqb, eqb-false}
+use borrow.Author.Tests.{le-ltb, ltb-false, ne-eqb, eqb-false}
 use lib.Dec.{eqb, ltb}
-use lib.ListN.{length, take, drop, getD, length-append}
+use lib.ListN.{length, take, drop, getD}
 use Rattle.plain.specs.Choice.{if_then_else_}
 use Rattle.words.specs.Halves.{HALF, upper, lower, joined, sum, place, distinct}
-use Rattle.words.proofs.Tests.{is-false, not-then}
+use Rattle.words.proofs.Tests.{not-then}
 use Rattle.words.proofs.Each.{Each, each-without}
 
 -- ---- a word and its halves

@@ -1,6 +1,5 @@
 // Two lists of words compared.
 ghost use mathlib.Core.Path.{_≡_};
-ghost use lib.ListN.{length};
 ghost use Rattle.plain.specs.Lists.{equal};
 
 // The words are the same.

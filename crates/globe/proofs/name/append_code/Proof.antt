@@ -1,5 +1,4 @@
 -- `append_code` meets its contract: each way out appends the figures that `numeral` picks by the same tests. Assumes nothing.
-use mathlib.Core.Path.{_≡_, sym, ap}
 use borrow.Author.Needs.{needs}
 use borrow.Author.Tests.{lt-ltb, le-ltb}
 use Rattle.globe.proofs.Spelling.{written-same}

@@ -3,7 +3,6 @@ use mathlib.Core.Path.{_≡_, sym}
 use borrow.Author.Needs.{needs}
 use lib.ListN.{length, take}
 use lib.Seq.{length-take-le}
-use Rattle.rotation.specs.Elements.{Enough}
 use Rattle.globe.proofs.nutation.evaluate.Statement.{statement}
 use Rattle.globe.proofs.nutation.evaluate.Tie as tie
 

@@ -1,7 +1,7 @@
 -- `by_code` meets its contract: the code decides. Assumes nothing.
-use mathlib.Core.Path.{sym, ap, _∙_}
+use mathlib.Core.Path.{sym, _∙_}
 use borrow.Author.Needs.{needs}
-use Rattle.globe.specs.Radii.{radiiFrom, bySystem}
+use Rattle.globe.specs.Radii.{radiiFrom}
 use Rattle.globe.proofs.Codes.{short-code}
 use Rattle.globe.proofs.radii.by_code.Statement.{statement}
 use Rattle.globe.proofs.radii.by_code.Tie as tie

@@ -1,5 +1,5 @@
 -- `axes_face` meets its contract: the three radii, or the number and zeros. Assumes nothing.
-use mathlib.Core.Path.{refl, sym, ap, _∙_}
+use mathlib.Core.Path.{sym, ap, _∙_}
 use lib.Ieee.{ofBits, round}
 use Rattle.plain.specs.Doubles.{printed}
 use Rattle.globe_c.specs.Faces.{axesFace, nought}

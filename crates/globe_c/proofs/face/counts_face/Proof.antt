@@ -1,5 +1,5 @@
 -- `counts_face` meets its contract: each case of the answer is its number and totals. Assumes nothing.
-use mathlib.Core.Path.{refl, sym, ap, _∙_}
+use mathlib.Core.Path.{sym, ap, _∙_}
 use Rattle.globe_c.specs.Faces.{countsFace}
 use borrow.Author.Needs.{needs}
 use Rattle.globe_c.proofs.face.counts_face.Statement.{statement}

@@ -1,5 +1,5 @@
 -- `oriented_face` meets its contract: a given orientation and a refusal, each by its own function. Assumes nothing.
-use mathlib.Core.Path.{refl, sym, ap, _∙_}
+use mathlib.Core.Path.{sym, ap, _∙_}
 use Rattle.globe_c.specs.Faces.{orientedFace}
 use borrow.Author.Needs.{needs}
 use Rattle.globe_c.proofs.face.oriented_face.Statement.{statement}

@@ -1,5 +1,5 @@
 -- `reply_face` meets its contract: each case of the reply is its number and line. Assumes nothing.
-use mathlib.Core.Path.{refl, sym, ap, _∙_}
+use mathlib.Core.Path.{sym, ap, _∙_}
 use Rattle.globe_c.specs.Faces.{replyFace}
 use borrow.Author.Needs.{needs}
 use Rattle.globe_c.proofs.face.reply_face.Statement.{statement}

@@ -4,7 +4,6 @@ use mathlib.Core.Path.{_≡_, refl, sym, _∙_}
 use mathlib.Core.Bool.{true}
 use Prim.Native.Nat.{_<_, _/_}
 use native.Mathlib.Omega.{arith}
-use borrow.Author.Needs.{needs}
 use lib.ListN.{length}
 use Rattle.plain.specs.Runs.{run}
 use Rattle.text.specs.Classes.{nameByte}
@@ -14,8 +13,6 @@ use Rattle.layout.specs.Names.{bytesOf}
 use Rattle.layout.proofs.Tapering.{HIGHEST, ends, ends-next, run-next, ends-here}
 use Rattle.layout.proofs.legible.tapers.Statement.{statement}
 use Rattle.layout.proofs.legible.tapers.Tie as tie
-use Rattle.layout.proofs.legible.tapers.Reads as reads
-use Rattle.layout.proofs.legible.tapers.Lts as lts
 
 abbrev Inv-loop : tie.InvT-loop
 Inv-loop w rest₀ rest = (rest < WORD) × (ends (bytesOf rest) ≡ ends (bytesOf w))

@@ -1,12 +1,11 @@
 -- `insert` meets its contract: at its spot the name is put among the others, unless it is one of them. Assumes nothing.
-use mathlib.Core.Path.{_≡_, refl, sym, ap, subst, _∙_}
+use mathlib.Core.Path.{_≡_, refl, sym, subst, _∙_}
 use mathlib.Core.List.{List}
 use Prim.Native.Nat.{ℕ, _+_, _≤_}
 use native.Mathlib.Omega.{arith}
 use borrow.Author.Needs.{needs}
-use lib.ListN.{length}
 use Rattle.words.proofs.Over.{length-over}
-use Rattle.listing.specs.Places.{Places, Inserting, Inserts, nameAt, namesAt, spot, raised}
+use Rattle.listing.specs.Places.{Inserting, Inserts, nameAt, namesAt, spot, raised}
 use Rattle.listing.specs.declared.order.Spot.{Spot}
 use Rattle.listing.specs.declared.order.Spot.the-variants.{At, Held}
 use Rattle.listing.proofs.Named.{length-namesAt}

@@ -1,8 +1,7 @@
 -- `show_counts` meets its contract: after k turns the lines of the first k variables are written and their values taken. Assumes nothing.
 use mathlib.Core.Path.{_≡_, refl, sym, ap, ap₂, subst, _∙_}
-use mathlib.Core.List.{List, [], _∷_, _++_, map, map-append}
+use mathlib.Core.List.{List, _++_, map, map-append}
 use Prim.Native.Nat.{ℕ, _+_, _-_, _≤_, _<_}
-use native.Mathlib.Nat.{zero-add}
 use native.Mathlib.Omega.{arith}
 use lib.Ieee.{Float, binary64, ofBits}
 use lib.ListN.{length, take, getD, length-append, length-map}
@@ -13,10 +12,10 @@ use Rattle.layout.specs.State.{flat}
 use Rattle.layout.specs.Names.{unpacked}
 use Rattle.layout.specs.Memory.{nameWords, decode}
 use Rattle.layout.proofs.Sound.{sound-of}
-use Rattle.pool.specs.Variables.{variable}
-use Rattle.listing.specs.Listing.{entry, counts, valuesOf}
+use Rattle.variables.specs.Variables.{variable}
+use Rattle.listing.specs.Listing.{counts, valuesOf}
 use Rattle.listing.specs.Pen.{Room, Writes}
-use Rattle.listing.specs.Places.{Places, nameCount, nameAt, namesAt, wordsAt}
+use Rattle.listing.specs.Places.{nameCount, nameAt, wordsAt}
 use Rattle.listing.specs.Shows.{line, size, listed, Adding, Adds, Counting, Counts}
 use Rattle.listing.specs.declared.show.Ends.{Ends}
 use Rattle.listing.proofs.Named.{length-wordsAt, length-namesAt, name-held, place-held}

@@ -2,17 +2,17 @@
 -- Assumes nothing.
 use mathlib.Core.Path.{_≡_, refl, sym, ap, ap₂, subst, _∙_}
 use mathlib.Core.List.{List, [], _∷_}
-use Prim.Native.Nat.{ℕ, suc, _+_, _≤_}
+use Prim.Native.Nat.{ℕ, _+_, _≤_}
 use native.Mathlib.Omega.{arith}
 use borrow.Author.Needs.{needs}
 use lib.Ieee.{Float}
-use lib.ListN.{length, drop, replicate}
+use lib.ListN.{length, replicate}
 use Rattle.plain.specs.Runs.{run}
 use Rattle.text.specs.Classes.{nameByte}
 use Rattle.words.specs.Over.{over}
 use Rattle.layout.specs.Names.{bytes, unpacked}
 use Rattle.layout.specs.Memory.{decode}
-use Rattle.pool.specs.Fetch.{doubles}
+use Rattle.variables.specs.Found.{doubles}
 use Rattle.listing.specs.Listing.{entry}
 use Rattle.listing.specs.Pen.{Room, Writes}
 use Rattle.listing.specs.Shows.{size, Taking, Takes, Adding, Adds}

@@ -1,9 +1,9 @@
 -- `take_values` meets its contract: where there is room, a variable that is there is found, and one that is not has no values.
 -- Assumes nothing.
-use mathlib.Core.Path.{_≡_, refl, sym, ap, ap₂, _∙_}
+use mathlib.Core.Path.{_≡_, refl, sym, ap, _∙_}
 use mathlib.Core.Bool.{Bool, true, false}
-use mathlib.Core.List.{List, [], map}
-use Prim.Native.Nat.{ℕ, _+_, _-_, _≤_}
+use mathlib.Core.List.{List, map}
+use Prim.Native.Nat.{ℕ, _-_, _≤_}
 use native.Mathlib.Omega.{arith}
 use borrow.Author.Needs.{needs}
 use borrow.Author.Tests.{le-leb}
@@ -17,11 +17,11 @@ use Rattle.words.specs.Over.{over}
 use Rattle.words.proofs.Over.{over-nil}
 use Rattle.layout.specs.State.{Pool}
 use Rattle.layout.specs.Memory.{decode}
-use Rattle.pool.specs.Variables.{variable, present}
-use Rattle.pool.specs.Fetch.{doubles, foundIn, filled, Finds}
-use Rattle.pool.specs.declared.variable.Found.{Found}
-use Rattle.pool.specs.declared.variable.Found.the-variants.{Count, TooMany, Absent}
-use Rattle.pool.proofs.Presence.{absent-empty}
+use Rattle.variables.specs.Variables.{variable, present}
+use Rattle.variables.specs.Found.{doubles, foundIn, filled, Finds}
+use Rattle.variables.specs.declared.variable.Found.{Found}
+use Rattle.variables.specs.declared.variable.Found.the-variants.{Count, TooMany, Absent}
+use Rattle.variables.proofs.Presence.{absent-empty}
 use Rattle.listing.specs.Shows.{countOf, size, Taking, Takes}
 use Rattle.listing.proofs.Lending.{put-end}
 use Rattle.listing.proofs.show.take_values.Statement.{statement}

@@ -2,7 +2,7 @@
 use mathlib.Core.Path.{sym, _∙_}
 use borrow.Author.Needs.{needs}
 use borrow.Author.Tests.{not-true, not-false}
-use Rattle.pool.proofs.Finding.{fetches-damaged, fetches-found}
+use Rattle.pool.proofs.Fetching.{fetches-damaged, fetches-found}
 use Rattle.pool.proofs.fetch.fetch.Statement.{statement}
 use Rattle.pool.proofs.fetch.fetch.Tie as tie
 

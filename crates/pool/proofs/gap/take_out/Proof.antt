@@ -5,7 +5,7 @@ use Prim.Native.Nat.{ℕ}
 use native.Mathlib.Omega.{arith}
 use borrow.Author.Needs.{needs}
 use Rattle.words.specs.Over.{over}
-use Rattle.pool.specs.Gaps.{textGap, statementGap, valueGap, left, whole, closed, takenOut, Spanned, Gapped, Closes}
+use Rattle.pool.specs.Gaps.{textGap, statementGap, valueGap, left, closed, takenOut, Spanned, Gapped, Closes}
 use Rattle.pool.specs.declared.gap.Gap.{Gap}
 use Rattle.pool.proofs.gap.take_out.Statement.{statement}
 use Rattle.pool.proofs.gap.take_out.Tie as tie

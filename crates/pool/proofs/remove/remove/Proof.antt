@@ -3,15 +3,13 @@
 use mathlib.Core.Path.{_≡_, sym, ap, subst, _∙_}
 use mathlib.Core.Bool.{true}
 use mathlib.Core.List.{List}
-use Prim.Native.Nat.{ℕ, _<_}
+use Prim.Native.Nat.{ℕ}
 use native.Mathlib.Omega.{arith}
 use borrow.Author.Needs.{needs}
 use borrow.Author.Tests.{not-true, not-false}
-use lib.ListN.{length}
 use Rattle.words.specs.Halves.{place}
 use Rattle.words.proofs.Each.{Words, words-of}
-use Rattle.layout.specs.Limits.{WORDS}
-use Rattle.layout.specs.Memory.{textCount, textWords}
+use Rattle.layout.specs.Memory.{textWords}
 use Rattle.layout.specs.Damage.{sound}
 use Rattle.layout.proofs.Sound.{Sound, sound-of}
 use Rattle.pool.specs.Gaps.{Gapped, takenOut}

@@ -3,7 +3,6 @@ use Prim.Native.Nat.{_*_, _≤_, _-_}
 use native.Mathlib.Omega.{arith}
 use lib.ListN.{length}
 use borrow.Author.Needs.{needs}
-use Rattle.rotation.specs.Elements.{nutatedAll}
 use Rattle.rotation.proofs.Terms.{ReachedAll, no-terms, more-terms, all-terms, angles-enough}
 use Rattle.rotation.proofs.nutation.nutate.Statement.{statement}
 use Rattle.rotation.proofs.nutation.nutate.Tie as tie
