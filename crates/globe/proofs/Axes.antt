@@ -15,9 +15,9 @@ use Rattle.rotation.specs.declared.table.Radii.the-variants.{Given, Refused}
 use Rattle.variables.specs.declared.variable.Found.{Found}
 use Rattle.variables.specs.declared.variable.Found.the-variants as F
 use Rattle.globe.specs.Radii.{axes}
-use Rattle.globe.specs.Steps.{Looks}
-use Rattle.globe.proofs.Found.{counted, crowded, absent}
-use Rattle.globe.proofs.Fronts.{over-all}
+use Rattle.wanted.specs.Steps.{Looks}
+use Rattle.wanted.proofs.Found.{counted, crowded, absent}
+use Rattle.wanted.proofs.Fronts.{over-all}
 
 -- by whether the variable is there and has three values
 abbrev measured : Bool → List Float → Radii

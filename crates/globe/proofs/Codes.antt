@@ -10,7 +10,7 @@ use Rattle.plain.specs.Bytes.{within}
 use Rattle.rotation.specs.Codes.{systemOf}
 use Rattle.rotation.specs.declared.code.System.the-variants.{Of, Nowhere}
 use Rattle.words.proofs.Tests.{both}
-use Rattle.globe.specs.Names.{LARGEST}
+use Rattle.wanted.specs.Names.{LARGEST}
 
 within-most : (low high n : ℕ) → within low high n ≡ true → n ≤ high
 within-most low high n e = leb-true n high (both (leb low n) (leb n high) e .1)

@@ -13,14 +13,14 @@ use Rattle.rotation.specs.declared.matrix.Oriented.{Oriented}
 use Rattle.rotation.specs.declared.matrix.Oriented.the-variants.{Refused}
 use Rattle.variables.specs.declared.variable.Found.{Found}
 use Rattle.variables.specs.declared.variable.Found.the-variants as F
-use Rattle.globe.specs.Elements.{ANGLES}
-use Rattle.globe.specs.Steps.{Looks, COEFFICIENTS, countOf, weighed, termsOf, Fronts, byBase, byAngles}
-use Rattle.globe.specs.declared.elements.Base.{Base}
-use Rattle.globe.specs.declared.nutation.Lengths.{Lengths}
-use Rattle.globe.specs.declared.nutation.Terms.{Terms}
-use Rattle.globe.specs.declared.nutation.Terms.the-variants as T
-use Rattle.globe.proofs.Fronts.{front}
-use Rattle.globe.proofs.Found.{Counted, counted, crowded, absent}
+use Rattle.wanted.specs.Elements.{ANGLES}
+use Rattle.wanted.specs.Steps.{Looks, COEFFICIENTS, countOf, weighed, termsOf, Fronts, byBase, byAngles}
+use Rattle.wanted.specs.declared.elements.Base.{Base}
+use Rattle.wanted.specs.declared.nutation.Lengths.{Lengths}
+use Rattle.wanted.specs.declared.nutation.Terms.{Terms}
+use Rattle.wanted.specs.declared.nutation.Terms.the-variants as T
+use Rattle.wanted.proofs.Fronts.{front}
+use Rattle.wanted.proofs.Found.{Counted, counted, crowded, absent}
 
 -- ---- coefficients
 

@@ -1,8 +1,4 @@
 -- Laws behind the answers.
-pub mod Spelling
-pub mod Fronts
-pub mod Found
-pub mod Polynomials
 pub mod Coefficients
 pub mod Settled
 pub mod Ordered

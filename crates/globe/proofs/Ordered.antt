@@ -12,13 +12,13 @@ use Rattle.rotation.specs.declared.matrix.Oriented.{Oriented}
 use Rattle.rotation.specs.declared.matrix.Oriented.the-variants.{Refused}
 use Rattle.words.proofs.Tests.{true-false}
 use Rattle.layout.specs.State.{Pool}
-use Rattle.globe.specs.Elements.{there, list, fewValues, nutating, angles, enoughAngles}
+use Rattle.wanted.specs.Elements.{there, list, fewValues, nutating, angles, enoughAngles}
 use Rattle.globe.specs.Orientation.{byElements}
-use Rattle.globe.specs.Steps.{valuesOf, one, baseOf, byNutation}
-use Rattle.globe.specs.declared.elements.Values.{Values}
-use Rattle.globe.specs.declared.elements.Values.the-variants as P
-use Rattle.globe.specs.declared.name.Wanted.the-variants as W
-use Rattle.globe.proofs.Found.{not-there-empty}
+use Rattle.wanted.specs.Steps.{valuesOf, one, baseOf, byNutation}
+use Rattle.wanted.specs.declared.elements.Values.{Values}
+use Rattle.wanted.specs.declared.name.Wanted.the-variants as W
+use Rattle.wanted.proofs.Found.{not-there-empty}
+use Rattle.wanted.proofs.Polynomials.{one-most}
 
 neither : (a b : Bool) → (a || b) ≡ false → (a ≡ false) × (b ≡ false)
 neither true b e = true-false e
@@ -34,11 +34,6 @@ one-true xs = by (fewValues xs) refl
     by : (b : Bool) → fewValues xs ≡ b → one (valuesOf true xs) ≡ 1
     by true e = rw e
     by false e = rw e
-
-pub one-most : (v : Values) → one v ≤ 1
-one-most (P.Few p) = omega arith
-one-most P.Miscounted = omega arith
-one-most P.Absent = omega arith
 
 one-there : (there : Bool) (xs : List Float) → 1 ≤ one (valuesOf there xs) → there ≡ true
 one-there true xs h = refl

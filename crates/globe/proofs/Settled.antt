@@ -8,11 +8,11 @@ use lib.ListN.{length}
 use Rattle.plain.specs.Choice.{if_then_else_}
 use Rattle.layout.specs.State.{Pool}
 use Rattle.variables.specs.declared.variable.Found.{Found}
-use Rattle.globe.specs.Elements.{ANGLES, there, list, nutating}
-use Rattle.globe.specs.Steps.{Looks, COEFFICIENTS, isThere, termsOf, byNutation}
-use Rattle.globe.specs.declared.elements.Base.{Base}
-use Rattle.globe.specs.declared.name.Wanted.the-variants as W
-use Rattle.globe.proofs.Found.{found-there, not-there-empty}
+use Rattle.wanted.specs.Elements.{ANGLES, there, list, nutating}
+use Rattle.wanted.specs.Steps.{Looks, COEFFICIENTS, isThere, termsOf, byNutation}
+use Rattle.wanted.specs.declared.elements.Base.{Base}
+use Rattle.wanted.specs.declared.name.Wanted.the-variants as W
+use Rattle.wanted.proofs.Found.{found-there, not-there-empty}
 use Rattle.globe.proofs.Coefficients.{coefficients, byTerms, decided}
 
 module _ (s : Pool) (n k : ℕ) (epoch : Float) (base : Base) {zr zd zp ra dec pm : List Float} (r d p : Found)

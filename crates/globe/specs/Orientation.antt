@@ -17,8 +17,8 @@ use Rattle.rotation.specs.declared.matrix.Oriented.the-variants.{Given, Refused
 use Rattle.layout.specs.State.{Pool}
 use Rattle.layout.specs.Memory.{decode}
 use Rattle.layout.specs.Damage.{sound}
-use Rattle.globe.specs.Elements.{noneThere, complete, wellCounted, elements, angles, list}
-use Rattle.globe.specs.declared.name.Wanted.the-variants as W
+use Rattle.wanted.specs.Elements.{noneThere, complete, wellCounted, elements, angles, list}
+use Rattle.wanted.specs.declared.name.Wanted.the-variants as W
 use Rattle.globe.specs.declared.source.Source.{Source}
 use Rattle.globe.specs.declared.source.Source.the-variants as S
 

@@ -1,25 +1,25 @@
 // An orientation from a pool: 15, 9, 10, 11, 12, or document 01's evaluation.
-use super::elements;
-use super::elements::Base;
-use super::name::Wanted;
-use super::nutation;
-use super::nutation::ANGLES;
-use super::nutation::COEFFICIENTS;
-use super::nutation::Terms;
 use layout::check::is_sound;
 use refusal::Refusal;
 use rotation::code;
 use rotation::code::System;
 use rotation::epoch;
 use rotation::matrix::Oriented;
+use wanted::elements;
+use wanted::elements::Base;
+use wanted::name::Wanted;
+use wanted::nutation;
+use wanted::nutation::ANGLES;
+use wanted::nutation::COEFFICIENTS;
+use wanted::nutation::Terms;
 ghost use mathlib.Core.Path.{_≡_};
 ghost use mathlib.Core.Bool.{true};
 ghost use Prim.Native.Nat.{_≤_};
 ghost use Rattle.layout.specs.Memory.{decode};
 ghost use Rattle.layout.specs.Damage.{sound};
-ghost use Rattle.globe.specs.Names.{LARGEST};
+ghost use Rattle.wanted.specs.Names.{LARGEST};
 ghost use Rattle.globe.specs.Orientation.{orientationReply, orientationFrom, byElements};
-ghost use Rattle.globe.specs.Steps.{Askable, byNutation};
+ghost use Rattle.wanted.specs.Steps.{Askable, byNutation};
 ghost use Rattle.globe.specs.declared.source.Source.the-variants as Source;
 ghost use Rattle.rotation.specs.declared.code.System.the-variants.{Of};
 

@@ -1,6 +1,4 @@
 // Radii from a pool: 15, 10, 12, or three values.
-use super::elements;
-use super::name::Wanted;
 use layout::check::is_sound;
 use refusal::Refusal;
 use rotation::code;
@@ -8,12 +6,14 @@ use rotation::code::System;
 use rotation::table::Axes;
 use rotation::table::Radii;
 use variables::variable::Found;
+use wanted::elements;
+use wanted::name::Wanted;
 ghost use mathlib.Core.Path.{_≡_};
 ghost use mathlib.Core.Bool.{true};
 ghost use Rattle.layout.specs.Memory.{decode};
 ghost use Rattle.layout.specs.Damage.{sound};
 ghost use Rattle.globe.specs.declared.source.Source.the-variants as Source;
-ghost use Rattle.globe.specs.Steps.{Askable};
+ghost use Rattle.wanted.specs.Steps.{Askable};
 ghost use Rattle.globe.specs.Radii.{radiiReply, radiiFrom, radiiOf};
 
 // 15 first.

@@ -4,7 +4,7 @@ use mathlib.Core.Bool.{true}
 use Rattle.rotation.specs.Table.{sizeOf}
 use Rattle.rotation.specs.Builtin.{builtinRadii}
 use Rattle.layout.specs.Damage.{sound}
-use Rattle.globe.specs.Names.{nameOf}
+use Rattle.wanted.specs.Names.{nameOf}
 use Rattle.globe.specs.Orientation.{orientationFrom, orientationReply}
 use Rattle.globe.specs.Radii.{radiiReply}
 use Rattle.promises.specs.Marked.{Marked, empty, undelimited, threePlaces, largest, steepest, appending, undone, wraps, earth, epochs, eleven, noValue}

@@ -25,9 +25,9 @@ use Rattle.rotation.specs.declared.table.Size.the-variants.{Known, NoSize}
 use Rattle.layout.specs.State.{Pool}
 use Rattle.layout.specs.Memory.{decode}
 use Rattle.layout.specs.Damage.{sound}
-use Rattle.globe.specs.Elements.{there, list}
+use Rattle.wanted.specs.Elements.{there, list}
 use Rattle.globe.specs.Radii.{axes, bySystem, radiiFrom, radiiReply}
-use Rattle.globe.specs.declared.name.Wanted.the-variants as W
+use Rattle.wanted.specs.declared.name.Wanted.the-variants as W
 use Rattle.globe.specs.declared.source.Source.the-variants as S
 use Rattle.promises.specs.Demands.{HasRadii}
 

@@ -24,9 +24,9 @@ use Rattle.rotation.specs.declared.table.Row.the-variants.{Held, NoRow}
 use Rattle.layout.specs.State.{Pool}
 use Rattle.layout.specs.Memory.{decode}
 use Rattle.layout.specs.Damage.{sound}
-use Rattle.globe.specs.Elements.{noneThere, complete, wellCounted, elements, angles, list}
+use Rattle.wanted.specs.Elements.{noneThere, complete, wellCounted, elements, angles, list}
 use Rattle.globe.specs.Orientation.{byElements, orientationFrom, orientationReply}
-use Rattle.globe.specs.declared.name.Wanted.the-variants as W
+use Rattle.wanted.specs.declared.name.Wanted.the-variants as W
 use Rattle.globe.specs.declared.source.Source.the-variants as S
 use Rattle.promises.specs.Demands.{HasElements, HasRow}
 

@@ -29,10 +29,10 @@ use Rattle.layout.proofs.Holds.{decode-legal}
 use Rattle.variables.specs.Variables.{has, assigns, any, since, gives, variable, present}
 use Rattle.variables.specs.Found.{doubles}
 use Rattle.variables.proofs.Presence.{absent-empty}
-use Rattle.globe.specs.Names.{nameOf}
-use Rattle.globe.specs.Elements.{there, list, ANGLES, polynomial, fewValues, nutating, enoughAngles, wellCounted}
+use Rattle.wanted.specs.Names.{nameOf}
+use Rattle.wanted.specs.Elements.{there, list, ANGLES, polynomial, fewValues, nutating, enoughAngles, wellCounted}
 use Rattle.globe.specs.Orientation.{orientationReply}
-use Rattle.globe.specs.declared.name.Wanted.the-variants as W
+use Rattle.wanted.specs.declared.name.Wanted.the-variants as W
 use Rattle.globe.specs.declared.source.Source.{Source}
 use Rattle.globe.specs.declared.source.Source.the-variants as S
 use Rattle.promises.specs.Calls.{asked, library, oriented}

@@ -45,12 +45,12 @@ use Rattle.pool.specs.declared.reply.Reply.{Reply}
 use Rattle.pool.specs.declared.reply.Reply.the-variants.{Refused}
 use Rattle.pool.specs.declared.reply.Fetched.{Fetched}
 use Rattle.pool.specs.declared.reply.Counts.{Counts}
-use Rattle.globe.specs.Elements.{there, noneThere, complete, wellCounted, elements, angles, list}
+use Rattle.wanted.specs.Elements.{there, noneThere, complete, wellCounted, elements, angles, list}
 use Rattle.globe.specs.Orientation.{Orients}
 use Rattle.globe.specs.Radii.{Measures}
 use Rattle.globe.specs.declared.source.Source.{Source}
 use Rattle.globe.specs.declared.source.Source.the-variants as S
-use Rattle.globe.specs.declared.name.Wanted.the-variants as W
+use Rattle.wanted.specs.declared.name.Wanted.the-variants as W
 use Rattle.promises.specs.Calls as C
 use Rattle.promises.specs.Calls.{Call, load, orientation, radii, oriented, measured, query, Build, number, line, count, doubles, totalled, accepted, lent, returned}
 

@@ -4,9 +4,9 @@ use Prim.Native.Nat.{_+_}
 use native.Mathlib.Omega.{arith}
 use borrow.Author.Needs.{needs}
 use Rattle.layout.specs.Memory.{decode}
-use Rattle.globe.specs.Elements.{there, list}
-use Rattle.globe.specs.Steps.{valuesOf, one}
-use Rattle.globe.specs.declared.name.Wanted.the-variants as W
+use Rattle.wanted.specs.Elements.{there, list}
+use Rattle.wanted.specs.Steps.{valuesOf, one}
+use Rattle.wanted.specs.declared.name.Wanted.the-variants as W
 use Rattle.globe.proofs.Ordered.{none-there, some-missing, all-there}
 use Rattle.globe.proofs.orientation.by_elements.Statement.{statement}
 use Rattle.globe.proofs.orientation.by_elements.Tie as tie

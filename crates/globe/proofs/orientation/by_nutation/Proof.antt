@@ -3,7 +3,7 @@ use mathlib.Core.Path.{_≡_, refl, sym, ap, _∙_}
 use borrow.Author.Needs.{needs}
 use Rattle.rotation.specs.declared.matrix.Oriented.the-variants.{Given}
 use Rattle.layout.specs.Memory.{decode}
-use Rattle.globe.specs.Steps.{byBase, byNutation}
+use Rattle.wanted.specs.Steps.{byBase, byNutation}
 use Rattle.globe.proofs.Coefficients.{byTerms, fronts}
 use Rattle.globe.proofs.Settled.{settled}
 use Rattle.globe.proofs.orientation.by_nutation.Statement.{statement}

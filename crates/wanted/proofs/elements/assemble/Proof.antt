@@ -1,0 +1,73 @@
+-- `assemble` meets its contract: each arm is a line of `baseOf`. Assumes nothing.
+use borrow.Author.Needs.{needs}
+use Rattle.wanted.proofs.elements.assemble.Statement.{statement}
+use Rattle.wanted.proofs.elements.assemble.Tie as tie
+
+enum-known-ra : tie.Need-enum-known-ra
+enum-known-ra c = search needs
+
+enum-known-dec : tie.Need-enum-known-dec
+enum-known-dec c = search needs
+
+enum-known-pm : tie.Need-enum-known-pm
+enum-known-pm c = search needs
+
+enum-told : tie.Need-enum-told
+enum-told c = search needs
+
+enum-told-2 : tie.Need-enum-told-2
+enum-told-2 c = search needs
+
+enum-told-3 : tie.Need-enum-told-3
+enum-told-3 c = search needs
+
+enum-told-4 : tie.Need-enum-told-4
+enum-told-4 c = search needs
+
+enum-told-5 : tie.Need-enum-told-5
+enum-told-5 c = search needs
+
+enum-told-6 : tie.Need-enum-told-6
+enum-told-6 c = search needs
+
+returns : tie.Need-returns
+returns c = rw (c .before .before .before .before .before .before .before .ra .given .1, c .before .before .before .before .dec .given .1, c .before .pm .given .1)
+
+returns-2 : tie.Need-returns-2
+returns-2 c = search needs
+
+returns-3 : tie.Need-returns-3
+returns-3 c = search needs
+
+returns-4 : tie.Need-returns-4
+returns-4 c = search needs
+
+returns-5 : tie.Need-returns-5
+returns-5 c = search needs
+
+returns-6 : tie.Need-returns-6
+returns-6 c = search needs
+
+returns-7 : tie.Need-returns-7
+returns-7 c = search needs
+
+pub assemble-spec : {M : Type 1} → statement M
+assemble-spec =
+    tie.close
+    (tie.spec
+    enum-known-ra
+    enum-known-dec
+    enum-known-pm
+    enum-told
+    enum-told-2
+    enum-told-3
+    enum-told-4
+    enum-told-5
+    enum-told-6
+    returns
+    returns-2
+    returns-3
+    returns-4
+    returns-5
+    returns-6
+    returns-7)

@@ -1,0 +1,78 @@
+-- "Elements wanted": what a pool has for a body, and the order of what may be wrong with it. Definitions only.
+use Prim.Native.Nat.{ℕ, _*_, _%_, max}
+use mathlib.Core.Bool.{Bool, true, _&&_, _||_, not}
+use mathlib.Core.List.{List, []}
+use lib.Dec.{leb, eqb}
+use lib.Ieee.{Float}
+use lib.ListN.{length, getD}
+use Rattle.plain.specs.Choice.{if_then_else_}
+use Rattle.plain.specs.Bytes.{within}
+use Rattle.plain.specs.Doubles.{printed}
+use Rattle.rotation.specs.declared.elements.Polynomial.{Polynomial}
+use Rattle.rotation.specs.declared.elements.Elements.{Elements}
+use Rattle.layout.specs.State.{Pool}
+use Rattle.variables.specs.Variables.{present}
+use Rattle.variables.specs.Found.{doubles}
+use Rattle.wanted.specs.Names.{nameOf}
+use Rattle.wanted.specs.declared.name.Wanted.{Wanted}
+use Rattle.wanted.specs.declared.name.Wanted.the-variants as W
+
+-- a body's variable is there, and its values
+abbrev pub there : Pool → ℕ → Wanted → Bool
+there s n wanted = present (nameOf n wanted) s
+
+abbrev pub list : Pool → ℕ → Wanted → List Float
+list s n wanted = doubles (nameOf n wanted) s
+
+-- ---- pole and meridian
+
+-- "None of the three present: 10"
+abbrev pub noneThere : Pool → ℕ → Bool
+noneThere s n = not (there s n W.PoleRa || there s n W.PoleDec || there s n W.Pm)
+
+abbrev pub allThere : Pool → ℕ → Bool
+allThere s n = there s n W.PoleRa && there s n W.PoleDec && there s n W.Pm
+
+-- "1 to 3 values each, missing ones 0"
+abbrev pub fewValues : List Float → Bool
+fewValues xs = within 1 3 (length xs)
+
+abbrev pub polynomial : List Float → Polynomial
+polynomial xs = record { c0 = getD xs 0 (printed 0 0); c1 = getD xs 1 (printed 0 0); c2 = getD xs 2 (printed 0 0) }
+
+abbrev pub elements : Pool → ℕ → Elements
+elements s n =
+    record { ra = polynomial (list s n W.PoleRa); dec = polynomial (list s n W.PoleDec); pm = polynomial (list s n W.Pm) }
+
+-- ---- nutation
+
+-- "If any is there"
+abbrev pub nutating : Pool → ℕ → Bool
+nutating s n = there s n W.NutPrecRa || there s n W.NutPrecDec || there s n W.NutPrecPm
+
+-- the most values that a system's angles have
+abbrev pub ANGLES : ℕ
+ANGLES = 64
+
+-- "it has an even count of at most 64, and at least twice the longest of the three"
+abbrev pub enoughAngles : (angles ra dec pm : List Float) → Bool
+enoughAngles angles ra dec pm =
+    eqb (length angles % 2) 0 && leb (length angles) ANGLES && leb (2 * max (length ra) (max (length dec) (length pm))) (length angles)
+
+-- ---- what is missing or miscounted; k is the system of the code n
+
+-- "some missing: 11 .. BODYs_NUT_PREC_ANGLES must be (else 11)"
+abbrev pub complete : Pool → (n k : ℕ) → Bool
+complete s n k = allThere s n && (if nutating s n then there s k W.NutPrecAngles else true)
+
+-- "otherwise 12"
+abbrev pub wellCounted : Pool → (n k : ℕ) → Bool
+wellCounted s n k =
+    fewValues (list s n W.PoleRa) && fewValues (list s n W.PoleDec) && fewValues (list s n W.Pm)
+    && (if nutating s n
+    then enoughAngles (list s k W.NutPrecAngles) (list s n W.NutPrecRa) (list s n W.NutPrecDec) (list s n W.NutPrecPm)
+    else true)
+
+-- the angles that are looked at: none where no nutation variable is there
+abbrev pub angles : Pool → (n k : ℕ) → List Float
+angles s n k = if nutating s n then list s k W.NutPrecAngles else []
