@@ -11,7 +11,7 @@ use lib.Ieee.{Float, nan, inf, fin, up, down, lt, le, eq, round}
 use lib.Ieee.Fits.{down-pos}
 use Rattle.plain.specs.Choice.{if_then_else_}
 use Rattle.plain.specs.Doubles.{remainder, printed}
-use Rattle.plain.proofs.Tests.{and-left}
+use Rattle.plain.proofs.Tests.{both}
 use Rattle.angle.specs.Wrap.{nought, turn, kept, lifted, wrapped}
 use Rattle.angle.specs.Range.{InTurn}
 
@@ -45,7 +45,7 @@ unfolding printed round lt eq le
 minus-zero m e h =
     let a = 0 * down e in
     let b = m * up e * 1 in
-    let g : a ≡ b = eqb-true a b (and-left (eqb a b) (eqb a 0) h) in
+    let g : a ≡ b = eqb-true a b (both (eqb a b) (eqb a 0) h .0) in
     omega arith
 
 pub below-turn : (x : Float) → le nought x ≡ true → lt x turn ≡ true → BelowTurn x

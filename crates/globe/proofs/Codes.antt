@@ -9,7 +9,7 @@ use Rattle.plain.specs.Choice.{if_then_else_}
 use Rattle.plain.specs.Bytes.{within}
 use Rattle.rotation.specs.Codes.{systemOf}
 use Rattle.rotation.specs.declared.code.System.the-variants.{Of, Nowhere}
-use Rattle.words.proofs.Tests.{both}
+use Rattle.plain.proofs.Tests.{both}
 use Rattle.wanted.specs.Names.{LARGEST}
 
 within-most : (low high n : ℕ) → within low high n ≡ true → n ≤ high

@@ -10,7 +10,7 @@ use Rattle.refusal.specs.declared.Refusal.the-variants.{UnknownBody, Incomplete
 use Rattle.rotation.specs.declared.code.System.the-variants.{Of}
 use Rattle.rotation.specs.declared.matrix.Oriented.{Oriented}
 use Rattle.rotation.specs.declared.matrix.Oriented.the-variants.{Refused}
-use Rattle.words.proofs.Tests.{true-false}
+use Rattle.plain.proofs.Tests.{true-false}
 use Rattle.layout.specs.State.{Pool}
 use Rattle.wanted.specs.Elements.{there, list, fewValues, nutating, angles, enoughAngles}
 use Rattle.globe.specs.Orientation.{byElements}

@@ -7,7 +7,7 @@ use native.Mathlib.Omega.{arith}
 use borrow.Author.Tests.{lt-leb, ne-eqb, ltb-false, ltb-true}
 use lib.Dec.{eqb, ltb}
 use Rattle.text.specs.Classes.{nameByte}
-use Rattle.words.proofs.Tests.{true-false, both}
+use Rattle.plain.proofs.Tests.{true-false, both}
 
 -- ---- two tests that agree at every number below n
 

@@ -10,7 +10,8 @@ use Rattle.text.specs.Statements.{Statement}
 use Rattle.text.specs.declared.statements.Operator.{Operator}
 use Rattle.text.specs.declared.statements.Operator.the-variants.{Direct, Append}
 use Rattle.words.specs.Halves.{HALF, upper, lower, joined, sum}
-use Rattle.words.proofs.Each.{Each, Words, WORD, each-append, each-take, each-drop}
+use Rattle.plain.proofs.Each.{Each, each-append, each-take, each-drop}
+use Rattle.words.proofs.Each.{Words, WORD}
 use Rattle.words.proofs.Halves.{upper-joined, lower-joined, joined-halves}
 use Rattle.layout.specs.State.{Text, Pool, program, flat, valuesOf, values}
 use Rattle.layout.specs.Limits.{NAMEWORDS}

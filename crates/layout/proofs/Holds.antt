@@ -10,7 +10,8 @@ use lib.Seq.{getD-take}
 use Rattle.text.specs.Statements.{Statement}
 use Rattle.words.specs.Halves.{upper, lower, sum}
 use Rattle.words.specs.Over.{over, part}
-use Rattle.words.proofs.Each.{Each, Words, WORD, each-take, each-drop}
+use Rattle.plain.proofs.Each.{Each, each-take, each-drop}
+use Rattle.words.proofs.Each.{Words, WORD}
 use Rattle.words.proofs.Halves.{Different}
 use Rattle.words.proofs.Over.{length-over, part-over, each-over}
 use Rattle.layout.specs.State.{Text, Pool, program, flat, valuesOf, values}

@@ -10,8 +10,9 @@ use lib.Dec.{leb}
 use lib.ListN.{length, length-append}
 use Rattle.text.specs.Statements.{Statement}
 use Rattle.words.specs.Halves.{HALF}
-use Rattle.words.proofs.Tests.{both}
-use Rattle.words.proofs.Each.{Each, Words, each-append, each-without, each-map}
+use Rattle.plain.proofs.Tests.{both}
+use Rattle.plain.proofs.Each.{Each, each-append, each-without, each-map}
+use Rattle.words.proofs.Each.{Words}
 use Rattle.words.proofs.Halves.{Different, different-append, different-without}
 use Rattle.layout.specs.State.{Text, Pool, program, flat, valuesOf, values}
 use Rattle.layout.specs.Limits.{TEXTS, STATEMENTS, VALUES, room}

@@ -14,8 +14,9 @@ use Rattle.plain.proofs.Runs.{run-skip, run-length}
 use Rattle.text.specs.Classes.{nameByte}
 use Rattle.text.specs.Statements.{NAME}
 use Rattle.words.specs.Halves.{all}
-use Rattle.words.proofs.Tests.{both, first-then}
-use Rattle.words.proofs.Each.{Each, Words, WORD, all-each, each-all, each-at}
+use Rattle.plain.proofs.Tests.{both, first-then}
+use Rattle.plain.proofs.Each.{Each, each-at}
+use Rattle.words.proofs.Each.{Words, WORD, all-each, each-all}
 use Rattle.words.proofs.Steps.{drop-next, drop-end}
 use Rattle.layout.specs.Limits.{NAMEWORDS}
 use Rattle.layout.specs.Names.{legal, wordAt, packed, bytesOf, bytes, unpacked, holdsName}

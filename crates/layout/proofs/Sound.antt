@@ -8,8 +8,9 @@ use lib.Dec.{eqb, leb}
 use lib.ListN.{length, take, drop}
 use Rattle.plain.specs.Choice.{if_then_else_}
 use Rattle.words.specs.Halves.{upper, lower, sum, all}
-use Rattle.words.proofs.Tests.{both, first-then}
-use Rattle.words.proofs.Each.{Each, each-weaken, all-each, each-all}
+use Rattle.plain.proofs.Tests.{both, first-then}
+use Rattle.plain.proofs.Each.{Each, each-weaken}
+use Rattle.words.proofs.Each.{all-each, each-all}
 use Rattle.words.proofs.Halves.{Different, distinct-different, different-distinct}
 use Rattle.layout.specs.Limits.{TEXTS, STATEMENTS, VALUES, WORDS, NAMEWORDS}
 use Rattle.layout.specs.Names.{holdsName}

@@ -12,8 +12,9 @@ use Rattle.plain.specs.Choice.{if_then_else_}
 use Rattle.plain.specs.Runs.{run, skip}
 use Rattle.text.specs.Classes.{nameByte}
 use Rattle.words.specs.Halves.{all}
-use Rattle.words.proofs.Tests.{true-false, is-false, first-then}
-use Rattle.words.proofs.Each.{WORD, Words, Each, all-each}
+use Rattle.plain.proofs.Tests.{true-false, is-false, first-then}
+use Rattle.plain.proofs.Each.{Each}
+use Rattle.words.proofs.Each.{WORD, Words, all-each}
 use Rattle.layout.specs.Names.{bytesOf, bytes, unpacked, holdsName}
 
 -- ---- bytes that are all zero, and bytes that are zero after a run

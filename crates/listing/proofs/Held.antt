@@ -9,7 +9,8 @@ use native.Mathlib.Omega.{arith}
 use lib.ListN.{length, take, drop}
 use lib.Seq.{drop-drop}
 use Rattle.text.specs.Statements.{Statement}
-use Rattle.words.proofs.Each.{WORD, Words, Each, each-weaken}
+use Rattle.plain.proofs.Each.{Each, each-weaken}
+use Rattle.words.proofs.Each.{WORD, Words}
 use Rattle.layout.specs.State.{program}
 use Rattle.layout.specs.Limits.{NAMEWORDS}
 use Rattle.layout.specs.Names.{holdsName, unpacked}

@@ -6,7 +6,7 @@ use native.Mathlib.Omega.{arith}
 use lib.ListN.{length, length-append}
 use Rattle.plain.specs.Bytes.{LF, SPACE}
 use Rattle.text.specs.Statements.{NAME}
-use Rattle.words.proofs.Each.{Each, each-weaken}
+use Rattle.plain.proofs.Each.{Each, each-weaken}
 use Rattle.layout.specs.State.{Pool, program, flat}
 use Rattle.layout.specs.Memory.{decode}
 use Rattle.layout.proofs.Sound.{Sound}

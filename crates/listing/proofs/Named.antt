@@ -10,7 +10,8 @@ use lib.Dec.{ltb}
 use lib.ListN.{length, take, drop, getD, length-drop, length-map, List·getD-map}
 use lib.Seq.{length-take-le, getD-take, drop-drop}
 use Rattle.plain.specs.Lists.{equal}
-use Rattle.words.proofs.Each.{WORD, Words, all-each, each-at, each-take, each-drop}
+use Rattle.plain.proofs.Each.{each-at, each-take, each-drop}
+use Rattle.words.proofs.Each.{WORD, Words, all-each}
 use Rattle.words.proofs.Steps.{drop-next, drop-end}
 use Rattle.layout.specs.Limits.{NAMEWORDS}
 use Rattle.layout.specs.Names.{unpacked}

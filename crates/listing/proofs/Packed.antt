@@ -13,7 +13,7 @@ use Rattle.plain.specs.Lists.{equal}
 use Rattle.plain.specs.Runs.{run, skip}
 use Rattle.text.specs.Classes.{nameByte}
 use Rattle.words.specs.Halves.{all}
-use Rattle.words.proofs.Tests.{both, first-then, true-false}
+use Rattle.plain.proofs.Tests.{both, first-then, true-false}
 use Rattle.words.proofs.Each.{WORD, Words}
 use Rattle.layout.specs.Names.{bytesOf, bytes, unpacked, holdsName}
 use Rattle.listing.specs.Order.{before}

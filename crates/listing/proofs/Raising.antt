@@ -11,7 +11,8 @@ use lib.Seq.{getD-drop, length-take-le, take-add, take-at, drop-at}
 use Rattle.words.specs.Over.{over, part}
 use Rattle.words.specs.Halves.{all}
 use Rattle.words.proofs.Over.{over-turn, getD-over-after, take-over, part-over, length-over}
-use Rattle.words.proofs.Each.{Each, all-each, each-all, each-append, each-left, each-right}
+use Rattle.plain.proofs.Each.{Each, each-append, each-left, each-right}
+use Rattle.words.proofs.Each.{all-each, each-all}
 use Rattle.listing.specs.Places.{Places, nameCount, nameAt, namesAt, raised}
 
 -- what is carried and what stands, when the places up to i have been gone through

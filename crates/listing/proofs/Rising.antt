@@ -10,10 +10,9 @@ use lib.Dec.{eqb, ltb}
 use lib.ListN.{length}
 use Rattle.plain.specs.Choice.{if_then_else_}
 use Rattle.plain.specs.Lists.{equal}
-use Rattle.plain.proofs.Tests.{or-cases}
+use Rattle.plain.proofs.Tests.{or-cases, both, true-false}
 use Rattle.text.specs.Statements.{Statement}
-use Rattle.words.proofs.Tests.{both, true-false}
-use Rattle.words.proofs.Each.{Each, each-weaken}
+use Rattle.plain.proofs.Each.{Each, each-weaken}
 use Rattle.listing.specs.Order.{before, inserted, names}
 use Rattle.listing.proofs.Packed.{first, first-less, first-same, equal-neither}
 

@@ -22,13 +22,13 @@ use Rattle.layout.proofs.Sound.{Sound, sound-of}
 use Rattle.layout.proofs.Holds.{decode-fits}
 use Rattle.listing.specs.Listing as listing
 use Rattle.listing.specs.Listing.{VARIABLES, entry, namesIn, valuesOf, counts, bitLines, shown}
-use Rattle.listing.specs.Pen.{Room, Writes}
+use Rattle.words.specs.Placed.{Room, Writes}
 use Rattle.listing.specs.Places.{Places, Ordering, Orders}
 use Rattle.listing.specs.Shows.{listed, doublesOf, bitsOf, Counting, Counts, Printing, Showing}
 use Rattle.listing.specs.declared.show.Ends.{Ends}
 use Rattle.listing.proofs.Raising.{take-over-through}
 use Rattle.listing.proofs.Named.{length-namesAt}
-use Rattle.listing.proofs.Writing.{room-first, room-then, writes-then}
+use Rattle.words.proofs.Placed.{room-first, room-then, writes-then}
 use Rattle.listing.proofs.Together.{values-few}
 use Rattle.listing.proofs.Held.{name-count, legible, ordered-names, small-values, word-values}
 use Rattle.listing.proofs.Doubles.{bits-back, numbers}

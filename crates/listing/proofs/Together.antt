@@ -7,7 +7,7 @@ use native.Mathlib.Omega.{arith}
 use lib.ListN.{length, length-append}
 use Rattle.plain.specs.Choice.{if_then_else_}
 use Rattle.text.specs.Statements.{Statement}
-use Rattle.words.proofs.Each.{Each, each-append}
+use Rattle.plain.proofs.Each.{Each, each-append}
 use Rattle.words.proofs.Same.{same-equal}
 use Rattle.layout.specs.State.{Pool, program, flat, valuesOf, values}
 use Rattle.variables.specs.Variables.{has, assigns, any, since, gives, variable}

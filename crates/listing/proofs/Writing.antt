@@ -1,41 +1,16 @@
--- One writing after another is the writing of both, and has room where both have. Assumes nothing.
+-- What is written for each element of a list, one after the other. Assumes nothing.
 use mathlib.Core.Path.{_≡_, sym, ap, subst, _∙_}
 use mathlib.Core.List.{List, [], _∷_, _++_}
 use Prim.Native.Nat.{ℕ, _+_, _≤_, _<_}
-use native.Mathlib.Nat.{add-zero}
 use native.Mathlib.Numerals.{add-one}
 use native.Mathlib.Omega.{arith}
 use lib.ListN.{length, take, drop, getD, length-append, take-append-drop}
 use lib.Seq.{take-suc, take-all}
-use Rattle.words.specs.Over.{over}
-use Rattle.words.proofs.Over.{over-nil, over-append, length-over}
+use Rattle.words.proofs.Placed.{writes-nothing, room-first, room-then, writes-then}
 use Rattle.words.proofs.Steps.{drop-next}
 use Rattle.layout.specs.State.{flat}
 use Rattle.layout.proofs.Columns.{flat-append, flat-one}
-use Rattle.listing.specs.Pen.{Room, Writes}
-
--- the output keeps its length
-pub writes-length : {at : ℕ} {xs m : List ℕ} {r : ℕ} {n : List ℕ} → Writes at xs m r n → length n ≡ length m
-writes-length {at} {xs} {m} w = ap length (w .output) ∙ length-over at xs m
-
-pub writes-nothing : (at : ℕ) (m : List ℕ) → Writes at [] m at m
-writes-nothing at m = record { next = sym (add-zero at); output = sym (over-nil at m) }
-
-module _ {at : ℕ} (xs ys : List ℕ) {m : List ℕ} where
-  pub room-first : Room at (xs ++ ys) m → Room at xs m
-  room-first f = record { fits = omega (arith, f .fits, length-append xs ys) }
-
-  pub room-then : {r : ℕ} {n : List ℕ} → Room at (xs ++ ys) m → Writes at xs m r n → Room r ys n
-  room-then f w = record { fits = omega (arith, f .fits, length-append xs ys, w .next, writes-length w) }
-
-  pub writes-then : {r s : ℕ} {n o : List ℕ} → Writes at xs m r n → Writes r ys n s o → Writes at (xs ++ ys) m s o
-  writes-then v w =
-      record {
-        next = omega (arith, v .next, w .next, length-append xs ys);
-        output = w .output ∙ (λ i. over (v .next i) ys (v .output i)) ∙ sym (over-append at xs ys m);
-      }
-
--- ---- what is written for each element of a list, one after the other
+use Rattle.words.specs.Placed.{Room, Writes}
 
 module _ {A : Type 0} (f : A → List ℕ) (xs : List A) (i : ℕ) (d : A) (h : i < length xs) where
   pub flat-next : flat f (take (i + 1) xs) ≡ flat f (take i xs) ++ f (getD xs i d)

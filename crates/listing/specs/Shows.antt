@@ -16,7 +16,7 @@ use Rattle.variables.specs.Found.{doubles}
 use Rattle.variables.specs.declared.variable.Found.{Found}
 use Rattle.variables.specs.declared.variable.Found.the-variants.{Count, TooMany, Absent}
 use Rattle.listing.specs.Listing.{entry, valuesOf, counts, bitLines, shown}
-use Rattle.listing.specs.Pen.{Room, Writes}
+use Rattle.words.specs.Placed.{Room, Writes}
 use Rattle.listing.specs.Places.{Places, namesAt}
 use Rattle.listing.specs.declared.show.Ends.{Ends}
 

@@ -1,6 +1,6 @@
 // Names in words: their bytes from the most significant down, zeros after them, so that words compare as names do.
-use crate::pen::write_bytes;
 use layout::limits::NAMEWORDS;
+use words::bytes::append;
 use words::read::part_of;
 ghost use mathlib.Core.Path.{_≡_};
 ghost use Prim.Native.Nat.{_+_, _*_, _%_, _≤_, _<_};
@@ -44,7 +44,7 @@ pub fn spread(words: &[u64], room: &mut [u8])
     let mut i = 0;
     while i < words.len() {
         let eight = bytes_of(words[i]);
-        write_bytes(room, WORDBYTES * i, &eight);
+        append(&eight, room, WORDBYTES * i);
         i += 1;
     }
 }

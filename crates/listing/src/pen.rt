@@ -1,10 +1,12 @@
 // Bytes, numbers and lines, written at a place of the output. Each function answers the place after what it wrote.
 use print::digits;
+use words::bytes::append;
 ghost use mathlib.Core.List.{[], _∷_, _++_};
 ghost use Rattle.plain.specs.Bytes.{LF, SPACE};
 ghost use Rattle.listing.specs.Figures.{decimal, bits};
 ghost use Rattle.listing.specs.Listing.{REFUSED, LINE, entry};
-ghost use Rattle.listing.specs.Pen.{phrase, Room, Writes};
+ghost use Rattle.words.specs.Placed.{Room, Writes};
+ghost use Rattle.listing.specs.Pen.{phrase};
 
 // A word and a number on a line.
 pub fn write_entry(out: &mut [u8], at: usize, word: &[u8], n: u64) -> usize
@@ -29,21 +31,9 @@ fn write_phrase(out: &mut [u8], at: usize, word: &[u8], n: u64) -> usize
     requires { ⌜ Room at (phrase (now word) n) (now out) ⌝ }
     ensures { λ r. ⌜ Writes at (phrase (now (word .entry)) n) (now (out .entry)) r (now (out .exit)) ⌝ }
 {
-    let spaced = write_bytes(out, at, word);
+    let spaced = append(word, out, at);
     let number = write_byte(out, spaced, b' ');
     write_decimal(out, number, n)
-}
-
-pub fn write_bytes(out: &mut [u8], at: usize, bytes: &[u8]) -> usize
-    requires { ⌜ Room at (now bytes) (now out) ⌝ }
-    ensures { λ r. ⌜ Writes at (now (bytes .entry)) (now (out .entry)) r (now (out .exit)) ⌝ }
-{
-    let mut i = 0;
-    while i < bytes.len() {
-        out[at + i] = bytes[i];
-        i += 1;
-    }
-    at + i
 }
 
 // A number in decimal: the figures before the last, then the last.
@@ -73,7 +63,7 @@ fn write_bits(out: &mut [u8], at: usize, w: u64) -> usize
 {
     let mut figures = [0u8; 16];
     digits::spell(w, &mut figures);
-    write_bytes(out, at, &figures)
+    append(&figures, out, at)
 }
 
 fn write_byte(out: &mut [u8], at: usize, byte: u8) -> usize

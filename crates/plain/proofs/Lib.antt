@@ -1,6 +1,7 @@
 -- Laws about the words of the definitions, for the proofs of the crates above.
 pub mod Ranges
 pub mod Tests
+pub mod Each
 pub mod Runs
 pub mod Tables
 pub mod Places

@@ -21,7 +21,8 @@ use Rattle.text.specs.Statements.{Event, Statement, statements}
 use Rattle.text.specs.Text.{fine, readText}
 use Rattle.text.proofs.Legal.{all-legal}
 use Rattle.text.proofs.Legal as T
-use Rattle.words.proofs.Each.{Each, each-all, each-weaken, Words, WORD}
+use Rattle.plain.proofs.Each.{Each, each-weaken}
+use Rattle.words.proofs.Each.{each-all, Words, WORD}
 use Rattle.layout.specs.Names.{legal}
 use Rattle.layout.specs.Damage.{BIAS, exponentField, small}
 use Rattle.layout.proofs.Legal.{Fair}

@@ -10,8 +10,8 @@ use Rattle.plain.specs.Choice.{if_then_else_}
 use Rattle.refusal.specs.declared.Refusal.the-variants.{LabelHeld, TextTooLong}
 use Rattle.text.specs.Statements.{Event}
 use Rattle.text.specs.Text.{Read, fine, refused, readText}
-use Rattle.words.proofs.Each.{Each}
-use Rattle.words.proofs.Tests.{true-false}
+use Rattle.plain.proofs.Each.{Each}
+use Rattle.plain.proofs.Tests.{true-false}
 use Rattle.layout.specs.State.{Pool}
 use Rattle.layout.specs.Limits.{room, LONGEST}
 use Rattle.layout.specs.Memory.{decode, put}

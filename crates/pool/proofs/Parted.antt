@@ -9,8 +9,8 @@ use lib.Dec.{eqb}
 use lib.ListN.{length, length-append}
 use Rattle.plain.specs.Choice.{if_then_else_}
 use Rattle.words.specs.Halves.{place}
-use Rattle.words.proofs.Tests.{true-false}
-use Rattle.words.proofs.Each.{Each}
+use Rattle.plain.proofs.Tests.{true-false}
+use Rattle.plain.proofs.Each.{Each}
 use Rattle.words.proofs.Halves.{upper-joined}
 use Rattle.layout.specs.State.{Text, Pool}
 use Rattle.layout.specs.Memory.{textWord}

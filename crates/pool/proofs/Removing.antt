@@ -8,7 +8,8 @@ use lib.ListN.{length}
 use Rattle.plain.specs.Choice.{if_then_else_}
 use Rattle.refusal.specs.declared.Refusal.the-variants.{NotHeld, DamagedPool}
 use Rattle.words.specs.Halves.{place}
-use Rattle.words.proofs.Each.{Each, Words}
+use Rattle.plain.proofs.Each.{Each}
+use Rattle.words.proofs.Each.{Words}
 use Rattle.layout.specs.State.{Pool}
 use Rattle.layout.specs.Memory.{textCount, textWords, textWord, decode, put}
 use Rattle.layout.specs.Damage.{sound}

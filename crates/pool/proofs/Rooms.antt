@@ -5,7 +5,7 @@ use mathlib.Core.Path.{_≡_, sym, ap, _∙_}
 use mathlib.Core.Bool.{true, false}
 use mathlib.Core.List.{List, [], _∷_}
 use lib.ListN.{length, length-append}
-use Rattle.words.proofs.Tests.{is-false}
+use Rattle.plain.proofs.Tests.{is-false}
 use Rattle.layout.specs.State.{Text, Pool, program, flat, valuesOf, values}
 use Rattle.layout.specs.Limits.{TEXTS, STATEMENTS, VALUES, room}
 use Rattle.layout.specs.Memory.{textCount, statementCount, valueCount, decode}

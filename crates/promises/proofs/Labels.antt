@@ -6,7 +6,7 @@ use mathlib.Core.List.{[], _∷_, _++_}
 use borrow.Author.Tests.{ne-eqb, eqb-false}
 use lib.Dec.{eqb}
 use Rattle.plain.specs.Choice.{if_then_else_}
-use Rattle.words.proofs.Tests.{true-false}
+use Rattle.plain.proofs.Tests.{true-false}
 use Rattle.layout.specs.State.{Text, Pool}
 use Rattle.pool.specs.Load.{held, with}
 use Rattle.pool.specs.Remove.{without}

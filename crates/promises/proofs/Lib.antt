@@ -13,7 +13,6 @@ pub mod Together
 pub mod Said
 pub mod Overflow
 pub mod Proper
-pub mod Fair
 pub mod Steps
 pub mod Histories
 pub mod Sentence

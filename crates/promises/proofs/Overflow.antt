@@ -18,8 +18,8 @@ use Rattle.rotation.specs.declared.matrix.Oriented.the-variants as O
 use Rattle.rotation.proofs.Finite.{evaluated-finite}
 use Rattle.rotation.proofs.Answers.{builtin-finite}
 use Rattle.text.specs.Statements.{Statement}
-use Rattle.words.proofs.Each.{Each, each-append, each-map, each-at, each-weaken}
-use Rattle.words.proofs.Tests.{both, true-false}
+use Rattle.plain.proofs.Each.{Each, each-append, each-map, each-at, each-weaken}
+use Rattle.plain.proofs.Tests.{both, true-false}
 use Rattle.layout.specs.State.{Pool, program, flat}
 use Rattle.layout.specs.Memory.{decode}
 use Rattle.layout.specs.Damage.{small}

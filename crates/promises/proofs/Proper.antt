@@ -8,7 +8,7 @@ use lib.Dec.{eqb}
 use Rattle.plain.specs.Choice.{if_then_else_}
 use Rattle.text.specs.Statements.{Statement}
 use Rattle.words.proofs.Halves.{Different}
-use Rattle.words.proofs.Each.{Each, each-append, each-left, each-right}
+use Rattle.plain.proofs.Each.{Each, each-append, each-left, each-right}
 use Rattle.layout.specs.State.{Text, Pool, program}
 use Rattle.layout.proofs.Legal.{labelOf, Fair, Legal, program-append, program-one}
 use Rattle.pool.specs.Load.{held, with}

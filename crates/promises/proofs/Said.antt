@@ -9,7 +9,7 @@ use lib.ListN.{length}
 use Rattle.plain.specs.Choice.{if_then_else_}
 use Rattle.refusal.specs.declared.Refusal.the-variants.{NotHeld}
 use Rattle.rotation.specs.Builtin.{builtinOrientation, builtinRadii}
-use Rattle.words.proofs.Tests.{both, first-then}
+use Rattle.plain.proofs.Tests.{both, first-then}
 use Rattle.layout.specs.State.{Pool}
 use Rattle.layout.specs.Limits.{WORDS}
 use Rattle.layout.specs.Memory.{decode}

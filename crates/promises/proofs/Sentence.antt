@@ -7,7 +7,7 @@ use mathlib.Core.Logic.{_⊎_, inl, inr}
 use mathlib.Core.List.{List, [], _∷_, _++_, append-assoc, append-nil}
 use Rattle.plain.specs.Choice.{if_then_else_}
 use Rattle.text.specs.Statements.{Statement}
-use Rattle.words.proofs.Tests.{true-false}
+use Rattle.plain.proofs.Tests.{true-false}
 use Rattle.layout.specs.State.{program, flat}
 use Rattle.variables.specs.Variables.{isDirect, has, assigns, any, since, gives, variable}
 use Rattle.variables.proofs.Since.{since-all}

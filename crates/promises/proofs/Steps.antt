@@ -8,7 +8,7 @@ use lib.ListN.{length}
 use Rattle.plain.specs.Choice.{if_then_else_}
 use Rattle.text.specs.Statements.{statements}
 use Rattle.text.specs.Text.{Read, fine, refused, readText, added}
-use Rattle.words.proofs.Each.{Each}
+use Rattle.plain.proofs.Each.{Each}
 use Rattle.refusal.specs.declared.Refusal.the-variants.{NotHeld}
 use Rattle.layout.specs.State.{Pool, program, flat}
 use Rattle.layout.specs.Limits.{WORDS, room}
@@ -28,7 +28,7 @@ use Rattle.promises.specs.Demands.{NoDamage}
 use Rattle.promises.proofs.Accepted.{taken-done}
 use Rattle.promises.proofs.Room.{room-without}
 use Rattle.promises.proofs.Proper.{Proper, proper-legal, legal-proper, proper-none, proper-with, proper-without}
-use Rattle.promises.proofs.Fair.{text-fair}
+use Rattle.pool.proofs.Admitted.{text-fair}
 use Rattle.promises.proofs.Said.{sound-sized, sound-size}
 
 -- the texts after a call

@@ -7,7 +7,7 @@ use lib.Dec.{eqb}
 use lib.ListN.{length}
 use Rattle.plain.specs.Choice.{if_then_else_}
 use Rattle.text.specs.Text.{readText}
-use Rattle.words.proofs.Each.{Each, each-append, each-right}
+use Rattle.plain.proofs.Each.{Each, each-append, each-right}
 use Rattle.layout.specs.State.{Pool, program, flat}
 use Rattle.layout.specs.Limits.{room, LONGEST}
 use Rattle.pool.specs.Replies.{done}

@@ -10,7 +10,7 @@ use lib.Ieee.{Float, nan, inf, fin, up, down, lt, le, eq, neg, round}
 use lib.Ieee.Fits.{down-pos}
 use Rattle.plain.specs.Doubles.{printed}
 use Rattle.plain.specs.Sizes.{Below}
-use Rattle.plain.proofs.Tests.{and-left, and-right, or-cases}
+use Rattle.plain.proofs.Tests.{both, or-cases}
 use Rattle.plain.proofs.Bounded.{Under, ⊘-under}
 use Rattle.rotation.specs.Epochs.{days, centuries, farthest, inReach}
 
@@ -18,7 +18,7 @@ use Rattle.rotation.specs.Epochs.{days, centuries, farthest, inReach}
 at-most : (a b u v : ℕ) (t : Bool) → (u ≡ v → a ≡ b) → (ltb a b || (eqb u v && t)) ≡ true → a ≤ b
 at-most a b u v t same h = elim (or-cases (ltb a b) (eqb u v && t) h) [
   | inl g ↦ let l : a < b = ltb-true a b g in omega arith
-  | inr g ↦ let l : a ≡ b = same (eqb-true u v (and-left (eqb u v) t g)) in omega arith
+  | inr g ↦ let l : a ≡ b = same (eqb-true u v (both (eqb u v) t g .0)) in omega arith
 ]
 
 between : (x : Float) → le (neg farthest) x ≡ true → le x farthest ≡ true → Below 38 x
@@ -44,7 +44,7 @@ unfolding inReach
 epoch-under epoch h =
     let a = le (neg farthest) epoch in
     let b = le epoch farthest in
-    record { is = between epoch (and-left a b h) (and-right a b h) }
+    record { is = between epoch (both a b h .0) (both a b h .1) }
 
 pub centuries-under : (epoch : Float) → inReach epoch ≡ true → Under 40 (centuries (days epoch) .0)
 unfolding days centuries printed round

@@ -32,7 +32,7 @@ none-yet is = rw (zero-add (length (is .numbers)))
 
 -- ---- one turn
 
-turn : (line : List ℕ) (i left : ℕ) → 0 < left → itemsUpTo left line i ≡ further (item line i) (itemsUpTo (left - 1) line)
+pub turn : (line : List ℕ) (i left : ℕ) → 0 < left → itemsUpTo left line i ≡ further (item line i) (itemsUpTo (left - 1) line)
 unfolding itemsUpTo
 turn line i zero h = absurd (not-suc-le-zero h)
 turn line i (suc n) h = let z : suc n - 1 ≡ n = omega arith in rw z

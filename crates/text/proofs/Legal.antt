@@ -22,7 +22,7 @@ use Rattle.text.specs.declared.statements.Head.{Head}
 use Rattle.text.specs.declared.statements.Head.the-variants as H
 use Rattle.text.specs.declared.statements.Operator.{Operator}
 use Rattle.text.proofs.Answers.{said, holds-answered}
-use Rattle.text.proofs.Each.{Each}
+use Rattle.plain.proofs.Each.{Each}
 use Rattle.text.proofs.Names.{LegalName, LegalHead, legal-head}
 use Rattle.text.proofs.Numbers.{Filling, Good, good-listed, good-given}
 

@@ -14,7 +14,6 @@ pub mod Tallies
 pub mod Enough
 pub mod Passing
 pub mod FirstFault
-pub mod Each
 pub mod Names
 pub mod Numbers
 pub mod Legal

@@ -17,7 +17,7 @@ use Rattle.text.specs.declared.faults.Fault.the-variants as F
 use Rattle.text.specs.declared.statements.Head.{Head}
 use Rattle.text.specs.declared.statements.Head.the-variants as H
 use Rattle.text.specs.declared.statements.Operator.the-variants as O
-use Rattle.text.proofs.Each.{Each}
+use Rattle.plain.proofs.Each.{Each}
 
 -- 1 to 32 letters, digits or underscores
 pub record LegalName (name : List ℕ) : Type 0 where

@@ -26,7 +26,7 @@ use Rattle.text.specs.declared.values.Stop.the-variants as S
 use Rattle.text.specs.declared.values.Word.{Word}
 use Rattle.text.specs.declared.values.Word.the-variants as W
 use Rattle.text.proofs.Enough.{value-read, item-read}
-use Rattle.text.proofs.Each.{Each}
+use Rattle.plain.proofs.Each.{Each}
 
 -- of a list without numbers so far: it stays without, or has some now
 abbrev pub Filling : Reader → List Float → Type 0

@@ -11,7 +11,8 @@ use Rattle.plain.specs.Lists.{equal}
 use Rattle.text.specs.Statements.{Statement}
 use Rattle.words.specs.Over.{over, part}
 use Rattle.words.specs.Halves.{lower, all}
-use Rattle.words.proofs.Each.{each-take, each-drop, each-all}
+use Rattle.plain.proofs.Each.{each-take, each-drop}
+use Rattle.words.proofs.Each.{each-all}
 use Rattle.words.proofs.Halves.{sum-take-next}
 use Rattle.words.proofs.Over.{over-nil, over-append, length-over}
 use Rattle.layout.specs.State.{program, flat}

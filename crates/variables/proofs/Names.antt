@@ -9,8 +9,9 @@ use lib.ListN.{length, take, drop, getD, length-drop}
 use lib.Seq.{drop-drop, length-take-le}
 use Rattle.plain.specs.Lists.{equal}
 use Rattle.words.specs.Over.{part}
-use Rattle.words.proofs.Tests.{true-false, is-false}
-use Rattle.words.proofs.Each.{WORD, Words, each-take, each-drop}
+use Rattle.plain.proofs.Tests.{true-false, is-false}
+use Rattle.plain.proofs.Each.{each-take, each-drop}
+use Rattle.words.proofs.Each.{WORD, Words}
 use Rattle.words.proofs.Same.{same-refl, same-equal}
 use Rattle.layout.specs.Limits.{NAMEWORDS, NAMES-AT}
 use Rattle.layout.specs.Names.{legal, packed, unpacked, holdsName}

@@ -7,8 +7,8 @@ use native.Mathlib.Omega.{arith}
 use lib.ListN.{length, length-append}
 use Rattle.plain.specs.Choice.{if_then_else_}
 use Rattle.text.specs.Statements.{Statement}
-use Rattle.words.proofs.Tests.{true-false, is-false}
-use Rattle.words.proofs.Each.{Each, each-weaken}
+use Rattle.plain.proofs.Tests.{true-false, is-false}
+use Rattle.plain.proofs.Each.{Each, each-weaken}
 use Rattle.words.proofs.Same.{same-equal}
 use Rattle.layout.specs.State.{Pool, program, flat}
 use Rattle.layout.specs.Names.{legal}

@@ -6,7 +6,7 @@ use mathlib.Core.List.{List, [], _∷_}
 use lib.ListN.{length, drop, length-append}
 use Rattle.plain.specs.Choice.{if_then_else_}
 use Rattle.text.specs.Statements.{Statement}
-use Rattle.words.proofs.Tests.{true-false}
+use Rattle.plain.proofs.Tests.{true-false}
 use Rattle.layout.specs.State.{flat}
 use Rattle.variables.specs.Variables.{assigns, any, since, gives}
 

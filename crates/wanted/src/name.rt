@@ -1,9 +1,11 @@
 // "With n the code, the variables are BODYn_POLE_RA ..": the name of a variable, spelled into bytes.
+use words::bytes::append;
 ghost use mathlib.Core.Path.{_≡_};
 ghost use Prim.Native.Nat.{_+_, _≤_};
 ghost use lib.ListN.{length};
 ghost use Rattle.wanted.specs.Names.{LARGEST, FIGURES, SUFFIX, numeral, suffix, figure, nameOf};
-ghost use Rattle.wanted.specs.Spelling.{Spellable, Written};
+ghost use Rattle.wanted.specs.Spelling.{Spellable};
+ghost use Rattle.words.specs.Placed.{Writes};
 
 // The variables that a body's answers are made of.
 pub enum Wanted {
@@ -20,7 +22,7 @@ pub enum Wanted {
 // The name is written from the start; the answer is its length.
 pub fn spell(code: u32, wanted: Wanted, out: &mut [u8]) -> usize
     requires { ⌜ Spellable code (now out) ⌝ }
-    ensures { λ r. ⌜ Written 0 (nameOf code wanted) (now (out .entry)) r (now (out .exit)) ⌝ }
+    ensures { λ r. ⌜ Writes 0 (nameOf code wanted) (now (out .entry)) r (now (out .exit)) ⌝ }
 {
     let after_body = append(b"BODY", out, 0);
     let after_code = append_code(code, out, after_body);
@@ -31,7 +33,7 @@ pub fn spell(code: u32, wanted: Wanted, out: &mut [u8]) -> usize
 // The code in figures, without leading zeros.
 fn append_code(code: u32, out: &mut [u8], at: usize) -> usize
     requires { ⌜ (code ≤ LARGEST) × (at + FIGURES ≤ length (now out)) ⌝ }
-    ensures { λ r. ⌜ Written at (numeral code) (now (out .entry)) r (now (out .exit)) ⌝ }
+    ensures { λ r. ⌜ Writes at (numeral code) (now (out .entry)) r (now (out .exit)) ⌝ }
 {
     if code < 10 {
         return append(&[figure_of(code)], out, at);
@@ -59,7 +61,7 @@ fn figure_of(digit: u32) -> u8
 
 fn append_suffix(wanted: Wanted, out: &mut [u8], at: usize) -> usize
     requires { ⌜ at + SUFFIX ≤ length (now out) ⌝ }
-    ensures { λ r. ⌜ Written at (suffix wanted) (now (out .entry)) r (now (out .exit)) ⌝ }
+    ensures { λ r. ⌜ Writes at (suffix wanted) (now (out .entry)) r (now (out .exit)) ⌝ }
 {
     match wanted {
         Wanted::PoleRa => append(b"POLE_RA", out, at),
@@ -71,17 +73,4 @@ fn append_suffix(wanted: Wanted, out: &mut [u8], at: usize) -> usize
         Wanted::NutPrecAngles => append(b"NUT_PREC_ANGLES", out, at),
         Wanted::Radii => append(b"RADII", out, at),
     }
-}
-
-// The bytes are written from a place on; the answer is the place after them.
-fn append(bytes: &[u8], out: &mut [u8], at: usize) -> usize
-    requires { ⌜ at + length (now bytes) ≤ length (now out) ⌝ }
-    ensures { λ r. ⌜ Written at (now (bytes .entry)) (now (out .entry)) r (now (out .exit)) ⌝ }
-{
-    let mut i = 0;
-    while i < bytes.len() {
-        out[at + i] = bytes[i];
-        i += 1;
-    }
-    at + i
 }

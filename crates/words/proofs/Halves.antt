@@ -10,8 +10,8 @@ use lib.Dec.{eqb, ltb}
 use lib.ListN.{length, take, drop, getD}
 use Rattle.plain.specs.Choice.{if_then_else_}
 use Rattle.words.specs.Halves.{HALF, upper, lower, joined, sum, place, distinct}
-use Rattle.words.proofs.Tests.{not-then}
-use Rattle.words.proofs.Each.{Each, each-without}
+use Rattle.plain.proofs.Tests.{not-then}
+use Rattle.plain.proofs.Each.{Each, each-without}
 
 -- ---- a word and its halves
 

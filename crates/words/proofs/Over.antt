@@ -8,7 +8,7 @@ use native.Mathlib.Omega.{arith}
 use lib.ListN.{length, take, drop, getD, set, length-map, length-drop, List·getD-map}
 use lib.Seq.{take-suc, length-take-le, getD-drop}
 use Rattle.words.specs.Over.{over, part, moved}
-use Rattle.words.proofs.Each.{Each}
+use Rattle.plain.proofs.Each.{Each}
 
 -- a place that lies before what begins at 0
 before-zero : {X : Type 0} {n : ℕ} → suc n ≤ 0 → X

@@ -7,7 +7,7 @@ use borrow.Author.Tests.{eqb-true, eq-eqb}
 use lib.Dec.{eqb}
 use lib.ListN.{length}
 use Rattle.plain.specs.Lists.{equal}
-use Rattle.words.proofs.Tests.{both, true-false, is-false}
+use Rattle.plain.proofs.Tests.{both, true-false, is-false}
 
 pub same-refl : (xs : List ℕ) → equal xs xs ≡ true
 unfolding equal

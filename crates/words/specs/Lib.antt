@@ -1,3 +1,4 @@
 -- Lists of memory words.
 pub mod Over
+pub mod Placed
 pub mod Halves

@@ -1,4 +1,5 @@
 // Lists of memory words: nothing here knows what the words mean.
+pub mod bytes;
 pub mod compare;
 pub mod read;
 pub mod scan;

@@ -1,29 +1,24 @@
 -- A list's numbers are stored one at a time: what is left to store onto this memory is what was to be stored onto the first. Assumes nothing.
-use Prim.Native.Nat.{ℕ, zero, suc, _+_, _-_, _<_}
-use native.Mathlib.Nat.{not-suc-le-zero, zero-add, add-zero}
+use Prim.Native.Nat.{ℕ, suc, _+_, _-_, _<_}
+use native.Mathlib.Nat.{zero-add, add-zero}
 use native.Mathlib.Omega.{arith}
 use mathlib.Core.Path.{_≡_, refl, sym, ap, _∙_}
 use mathlib.Core.List.{List, [], _∷_}
 use lib.Ieee.{Float, binary64, toBits}
 use lib.ListN.{length}
-use Rattle.text.specs.Values.{item, Items, ended, further, itemsUpTo, items, tally}
+use Rattle.text.specs.Values.{item, Items, ended, itemsUpTo, items, tally}
 use Rattle.text.specs.declared.faults.Fault.{Fault}
 use Rattle.text.specs.declared.values.Item.{Item}
 use Rattle.text.specs.declared.values.Item.the-variants as I
 use Rattle.text.specs.declared.values.Stop.{Stop}
 use Rattle.text.specs.declared.values.Stop.the-variants as S
-use Rattle.text.proofs.Items.{withItems, none-yet}
+use Rattle.text.proofs.Items.{withItems, none-yet, turn}
 use Rattle.words.specs.Over.{over}
 use Rattle.words.proofs.Over.{over-nil, over-append, length-over}
 use Rattle.writing.specs.Writing.{bits}
 use Rattle.writing.specs.Pens.{Stores}
 
 -- ---- the items that are left, by the next one
-
-turn : (line : List ℕ) (i left : ℕ) → 0 < left → itemsUpTo left line i ≡ further (item line i) (itemsUpTo (left - 1) line)
-unfolding itemsUpTo
-turn line i zero h = absurd (not-suc-le-zero h)
-turn line i (suc n) h = let z : suc n - 1 ≡ n = omega arith in rw z
 
 pub none-left : (line : List ℕ) (i left : ℕ) → left ≡ 0 → itemsUpTo left line i ≡ ended S.End
 unfolding itemsUpTo

@@ -10,7 +10,8 @@ use borrow.Author.Tests.{not-true, not-false}
 use lib.ListN.{length, take, drop, getD}
 use Rattle.words.specs.Halves.{all}
 use Rattle.words.proofs.Steps.{drop-next, drop-end, rest-part}
-use Rattle.words.proofs.Each.{WORD, words-of, each-drop}
+use Rattle.plain.proofs.Each.{each-drop}
+use Rattle.words.proofs.Each.{WORD, words-of}
 use Rattle.layout.specs.Names.{bytesOf, bytes}
 use Rattle.layout.proofs.Tapering.{zeros, ends, ends-through, ends-last, ends-never, zeros-words}
 use Rattle.layout.proofs.legible.all_taper.Statement.{statement}

@@ -8,7 +8,7 @@ use lib.ListN.{length}
 use Rattle.plain.specs.Runs.{run}
 use Rattle.text.specs.Classes.{nameByte}
 use Rattle.words.proofs.Each.{WORD}
-use Rattle.words.proofs.Tests.{eqb-swap}
+use Rattle.plain.proofs.Tests.{eqb-swap}
 use Rattle.layout.specs.Names.{bytesOf}
 use Rattle.layout.proofs.Tapering.{HIGHEST, ends, ends-next, run-next, ends-here}
 use Rattle.layout.proofs.legible.tapers.Statement.{statement}

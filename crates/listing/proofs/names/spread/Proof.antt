@@ -8,8 +8,8 @@ use Rattle.words.specs.Over.{over}
 use Rattle.words.proofs.Over.{over-nil, over-append}
 use Rattle.words.proofs.Steps.{drop-next, drop-end}
 use Rattle.layout.specs.Names.{bytesOf, bytes}
-use Rattle.listing.specs.Pen.{Room, Writes}
-use Rattle.listing.proofs.Writing.{writes-length}
+use Rattle.words.specs.Placed.{Room, Writes}
+use Rattle.words.proofs.Placed.{writes-length}
 use Rattle.listing.proofs.names.spread.Statement.{statement}
 use Rattle.listing.proofs.names.spread.Tie as tie
 
@@ -49,14 +49,14 @@ shared-slice-read-bytes-of c = omega arith
 bytes-of-requires : tie.Need-bytes-of-requires Inv-loop μ-loop
 bytes-of-requires c κs = tt
 
-mul-write-bytes : tie.Need-mul-write-bytes Inv-loop μ-loop
-mul-write-bytes c = omega arith
+slice-aggregate-append : tie.Need-slice-aggregate-append Inv-loop μ-loop
+slice-aggregate-append c = sym (ap length (c .before .bytes-of .ensures))
 
-slice-aggregate-write-bytes : tie.Need-slice-aggregate-write-bytes Inv-loop μ-loop
-slice-aggregate-write-bytes c = sym (ap length (c .before .before .bytes-of .ensures))
+mul-append : tie.Need-mul-append Inv-loop μ-loop
+mul-append c = omega arith
 
-write-bytes-requires : tie.Need-write-bytes-requires Inv-loop μ-loop
-write-bytes-requires c κs =
+append-requires : tie.Need-append-requires Inv-loop μ-loop
+append-requires c κs =
     let b = c .before .before in
     let l = b .before .before .before in
     let s = l .before .before .before in
@@ -76,8 +76,8 @@ loop-again c =
     let l = b .before .before .before in
     let s = l .before .before .before in (
       omega arith,
-      writes-length (w .write-bytes .ensures) ∙ l .loop .inv .1,
-      fewer (s .args .words .now) (l .loop .i) (b .before .before .loop-test .taken) (l .loop .room) (b .bytes-of .result) (b .bytes-of .ensures) _ _ (w .write-bytes .ensures)
+      writes-length (w .append .ensures) ∙ l .loop .inv .1,
+      fewer (s .args .words .now) (l .loop .i) (b .before .before .loop-test .taken) (l .loop .room) (b .bytes-of .result) (b .bytes-of .ensures) _ _ (w .append .ensures)
           ∙ l .loop .inv .2,
     )
 
@@ -99,9 +99,9 @@ spread-spec =
     mul-bytes-of
     shared-slice-read-bytes-of
     bytes-of-requires
-    mul-write-bytes
-    slice-aggregate-write-bytes
-    write-bytes-requires
+    slice-aggregate-append
+    mul-append
+    append-requires
     add-i
     loop-less
     loop-again

@@ -6,9 +6,9 @@ use native.Mathlib.Omega.{arith}
 use borrow.Fn.Kinds.{In}
 use borrow.Fn.PlainCycle.{Measures, is, falls, and}
 use Rattle.listing.specs.Figures.{decimal}
-use Rattle.listing.specs.Pen.{Room, Writes}
+use Rattle.words.specs.Placed.{Room, Writes}
 use Rattle.listing.proofs.Decimals.{figure, decimal-last, decimal-more}
-use Rattle.listing.proofs.Writing.{writes-length, room-first, room-then, writes-then}
+use Rattle.words.proofs.Placed.{writes-length, room-first, room-then, writes-then}
 use Rattle.listing.proofs.pen.write_decimal.Reads as write-decimal
 use Rattle.listing.proofs.pen.write_decimal.Kinds as write-decimal-kinds
 use Rattle.listing.proofs.pen.+write_decimal.Lts-write_decimal as write-decimal-lts

@@ -3,7 +3,7 @@ use mathlib.Core.Path.{subst, sym}
 use mathlib.Core.List.{List}
 use Prim.Native.Nat.{ℕ}
 use borrow.Author.Needs.{needs}
-use Rattle.listing.specs.Pen.{Room, Writes}
+use Rattle.words.specs.Placed.{Room, Writes}
 use Rattle.listing.proofs.pen.write_bits.Statement.{statement}
 use Rattle.listing.proofs.pen.write_bits.Tie as tie
 
@@ -13,11 +13,11 @@ slice-aggregate-spell c = search needs
 spell-requires : tie.Need-spell-requires
 spell-requires c κs = search needs
 
-slice-aggregate-write-bytes : tie.Need-slice-aggregate-write-bytes
-slice-aggregate-write-bytes c = search needs
+slice-aggregate-append : tie.Need-slice-aggregate-append
+slice-aggregate-append c = search needs
 
-write-bytes-requires : tie.Need-write-bytes-requires
-write-bytes-requires c κs =
+append-requires : tie.Need-append-requires
+append-requires c κs =
     let d = c .before .before .before in
     let s = d .before .before .before in
     subst (λ (l : List ℕ). Room (s .args .at) l (s .args .out .now)) (sym (d .spell .ensures)) (s .pre)
@@ -30,7 +30,7 @@ returns c =
     let w = c .before .before in
     let d = w .before .before .before .before in
     let s = d .before .before .before in
-    subst (λ (l : List ℕ). Writes (s .args .at) l (s .args .out .now) (w .write-bytes .result) (w .write-bytes .last .0)) (d .spell .ensures) (w .write-bytes .ensures)
+    subst (λ (l : List ℕ). Writes (s .args .at) l (s .args .out .now) (w .append .result) (w .append .last .1 .0)) (d .spell .ensures) (w .append .ensures)
 
 pub write-bits-spec : {M : Type 1} → statement M
 write-bits-spec =
@@ -38,7 +38,7 @@ write-bits-spec =
     (tie.spec
     slice-aggregate-spell
     spell-requires
-    slice-aggregate-write-bytes
-    write-bytes-requires
+    slice-aggregate-append
+    append-requires
     same-length
     returns)

@@ -6,8 +6,9 @@ use borrow.Author.Needs.{needs}
 use Rattle.plain.specs.Bytes.{LF, SPACE}
 use Rattle.listing.specs.Figures.{decimal}
 use Rattle.listing.specs.Listing.{entry}
-use Rattle.listing.specs.Pen.{phrase, Room, Writes}
-use Rattle.listing.proofs.Writing.{room-first, room-then, writes-then}
+use Rattle.words.specs.Placed.{Room, Writes}
+use Rattle.listing.specs.Pen.{phrase}
+use Rattle.words.proofs.Placed.{room-first, room-then, writes-then}
 use Rattle.listing.proofs.pen.write_entry.Statement.{statement}
 use Rattle.listing.proofs.pen.write_entry.Tie as tie
 

@@ -3,7 +3,7 @@ use mathlib.Core.List.{[], _∷_}
 use borrow.Author.Needs.{needs}
 use Rattle.plain.specs.Bytes.{LF}
 use Rattle.listing.specs.Figures.{bits}
-use Rattle.listing.proofs.Writing.{room-first, room-then, writes-then}
+use Rattle.words.proofs.Placed.{room-first, room-then, writes-then}
 use Rattle.listing.proofs.pen.write_line.Statement.{statement}
 use Rattle.listing.proofs.pen.write_line.Tie as tie
 

@@ -4,8 +4,9 @@ use Prim.Native.Nat.{ℕ}
 use borrow.Author.Needs.{needs}
 use Rattle.plain.specs.Bytes.{SPACE}
 use Rattle.listing.specs.Figures.{decimal}
-use Rattle.listing.specs.Pen.{phrase, Room, Writes}
-use Rattle.listing.proofs.Writing.{room-first, room-then, writes-then}
+use Rattle.words.specs.Placed.{Room, Writes}
+use Rattle.listing.specs.Pen.{phrase}
+use Rattle.words.proofs.Placed.{room-first, room-then, writes-then}
 use Rattle.listing.proofs.pen.write_phrase.Statement.{statement}
 use Rattle.listing.proofs.pen.write_phrase.Tie as tie
 
@@ -17,8 +18,8 @@ module _ (word : List ℕ) (n : ℕ) {at : ℕ} {m : List ℕ} (f : Room at (phr
   room-space : Room a (SPACE ∷ []) x
   room-space = room-first (SPACE ∷ []) (decimal n) room-rest
 
-write-bytes-requires : tie.Need-write-bytes-requires
-write-bytes-requires c κs =
+append-requires : tie.Need-append-requires
+append-requires c κs =
     let s = c .before .before .before in
     room-first (s .args .word .now) (SPACE ∷ decimal (s .args .n)) (s .pre)
 
@@ -26,14 +27,14 @@ write-byte-requires : tie.Need-write-byte-requires
 write-byte-requires c κs =
     let w = c .before .before .before in
     let s = w .before .before .before .before in
-    room-space (s .args .word .now) (s .args .n) (s .pre) (w .write-bytes .ensures)
+    room-space (s .args .word .now) (s .args .n) (s .pre) (w .append .ensures)
 
 write-decimal-requires : tie.Need-write-decimal-requires
 write-decimal-requires c κs =
     let b = c .before .before .before in
     let w = b .before .before .before .before in
     let s = w .before .before .before .before in
-    room-then (SPACE ∷ []) (decimal (s .args .n)) (room-rest (s .args .word .now) (s .args .n) (s .pre) (w .write-bytes .ensures)) (b .write-byte .ensures)
+    room-then (SPACE ∷ []) (decimal (s .args .n)) (room-rest (s .args .word .now) (s .args .n) (s .pre) (w .append .ensures)) (b .write-byte .ensures)
 
 same-length : tie.Need-same-length
 same-length c = search needs
@@ -44,10 +45,10 @@ returns c =
     let b = d .before .before .before .before in
     let w = b .before .before .before .before in
     let s = w .before .before .before .before in
-    writes-then (s .args .word .now) (SPACE ∷ decimal (s .args .n)) (w .write-bytes .ensures)
+    writes-then (s .args .word .now) (SPACE ∷ decimal (s .args .n)) (w .append .ensures)
     (writes-then (SPACE ∷ []) (decimal (s .args .n)) (b .write-byte .ensures) (d .write-decimal .ensures))
 
 pub write-phrase-spec : {M : Type 1} → statement M
 write-phrase-spec =
     tie.close
-    (tie.spec write-bytes-requires write-byte-requires write-decimal-requires same-length returns)
+    (tie.spec append-requires write-byte-requires write-decimal-requires same-length returns)

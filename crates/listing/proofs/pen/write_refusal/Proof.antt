@@ -4,8 +4,9 @@ use Prim.Native.Nat.{ℕ}
 use borrow.Author.Needs.{needs}
 use Rattle.plain.specs.Bytes.{SPACE}
 use Rattle.listing.specs.Listing.{REFUSED, LINE, entry}
-use Rattle.listing.specs.Pen.{phrase, Room, Writes}
-use Rattle.listing.proofs.Writing.{room-first, room-then, writes-then}
+use Rattle.words.specs.Placed.{Room, Writes}
+use Rattle.listing.specs.Pen.{phrase}
+use Rattle.words.proofs.Placed.{room-first, room-then, writes-then}
 use Rattle.listing.proofs.pen.write_refusal.Statement.{statement}
 use Rattle.listing.proofs.pen.write_refusal.Tie as tie
 

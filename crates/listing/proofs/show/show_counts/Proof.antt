@@ -14,12 +14,13 @@ use Rattle.layout.specs.Memory.{nameWords, decode}
 use Rattle.layout.proofs.Sound.{sound-of}
 use Rattle.variables.specs.Variables.{variable}
 use Rattle.listing.specs.Listing.{counts, valuesOf}
-use Rattle.listing.specs.Pen.{Room, Writes}
+use Rattle.words.specs.Placed.{Room, Writes}
 use Rattle.listing.specs.Places.{nameCount, nameAt, wordsAt}
 use Rattle.listing.specs.Shows.{line, size, listed, Adding, Adds, Counting, Counts}
 use Rattle.listing.specs.declared.show.Ends.{Ends}
 use Rattle.listing.proofs.Named.{length-wordsAt, length-namesAt, name-held, place-held}
-use Rattle.listing.proofs.Writing.{writes-length, writes-none, writes-all, room-next, writes-next, flat-next, flat-within}
+use Rattle.words.proofs.Placed.{writes-length}
+use Rattle.listing.proofs.Writing.{writes-none, writes-all, room-next, writes-next, flat-next, flat-within}
 use Rattle.listing.proofs.show.show_counts.Statement.{statement}
 use Rattle.listing.proofs.show.show_counts.Tie as tie
 

@@ -14,7 +14,7 @@ use Rattle.layout.specs.Names.{bytes, unpacked}
 use Rattle.layout.specs.Memory.{decode}
 use Rattle.variables.specs.Found.{doubles}
 use Rattle.listing.specs.Listing.{entry}
-use Rattle.listing.specs.Pen.{Room, Writes}
+use Rattle.words.specs.Placed.{Room, Writes}
 use Rattle.listing.specs.Shows.{size, Taking, Takes, Adding, Adds}
 use Rattle.listing.specs.declared.show.Ends.{Ends}
 use Rattle.listing.proofs.Packed.{length-bytes}

@@ -8,13 +8,15 @@ use lib.Dec.{T}
 use lib.Ieee.{Float, nan, binary64, toBits, isNan}
 use lib.ListN.{length, take, getD, length-map, List·getD-map}
 use Rattle.plain.specs.Bytes.{LF}
-use Rattle.words.proofs.Each.{all-each, each-at}
+use Rattle.plain.proofs.Each.{each-at}
+use Rattle.words.proofs.Each.{all-each}
 use Rattle.layout.specs.State.{flat}
 use Rattle.listing.specs.Figures.{bits}
 use Rattle.listing.specs.Listing.{bitLines}
-use Rattle.listing.specs.Pen.{Room, Writes}
+use Rattle.words.specs.Placed.{Room, Writes}
 use Rattle.listing.specs.Shows.{bitsOf, Printing}
-use Rattle.listing.proofs.Writing.{writes-length, writes-none, writes-all, room-next, writes-next}
+use Rattle.words.proofs.Placed.{writes-length}
+use Rattle.listing.proofs.Writing.{writes-none, writes-all, room-next, writes-next}
 use Rattle.listing.proofs.show.write_values.Statement.{statement}
 use Rattle.listing.proofs.show.write_values.Tie as tie
 

@@ -12,7 +12,8 @@ use lib.Ieee.Bits.{nanBits-above}
 use lib.ListN.{length, take, getD, set, length-set}
 use lib.Seq.{take-all}
 use Rattle.words.specs.Over.{over}
-use Rattle.words.proofs.Each.{all-each, each-at}
+use Rattle.plain.proofs.Each.{each-at}
+use Rattle.words.proofs.Each.{all-each}
 use Rattle.words.proofs.Over.{over-nil, over-turn-map}
 use Rattle.layout.specs.Damage.{small}
 use Rattle.variables.proofs.gather.copy_doubles.Statement.{statement}

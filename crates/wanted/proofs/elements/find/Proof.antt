@@ -17,10 +17,10 @@ spell-requires : tie.Need-spell-requires
 spell-requires c κs = search needs
 
 array-share-prefix-name : tie.Need-array-share-prefix-name
-array-share-prefix-name c = omega (arith, c .before .spell .ensures .place, name-length (c .before .before .before .before .before .args .code) (c .before .before .before .before .before .args .wanted))
+array-share-prefix-name c = omega (arith, c .before .spell .ensures .next, name-length (c .before .before .before .before .before .args .code) (c .before .before .before .before .before .args .wanted))
 
 slice-aggregate-variable : tie.Need-slice-aggregate-variable
-slice-aggregate-variable c = sym (length-take-le (c .before .before .spell .result) (c .before .before .spell .last .1 .1 .0) (omega (arith, c .before .before .spell .ensures .place, name-length (c .before .before .before .before .before .before .args .code) (c .before .before .before .before .before .before .args .wanted))))
+slice-aggregate-variable c = sym (length-take-le (c .before .before .spell .result) (c .before .before .spell .last .1 .1 .0) (omega (arith, c .before .before .spell .ensures .next, name-length (c .before .before .before .before .before .before .args .code) (c .before .before .before .before .before .before .args .wanted))))
 
 variable-requires : tie.Need-variable-requires
 variable-requires c κs = search needs
@@ -32,7 +32,7 @@ returns : tie.Need-returns
 returns c =
     let s = c .before .before .before .before .before .before .spell in
     let a = c .before .before .before .before .before .before .before .before .before .before .args in
-    let e = front _ _ _ (s .result) (s .ensures .written) (name-length (a .code) (a .wanted)) (s .ensures .place ∙ zero-add _) in
+    let e = front _ _ _ (s .result) (s .ensures .output) (name-length (a .code) (a .wanted)) (s .ensures .next ∙ zero-add _) in
     rw e at (looks (c .before .before .variable .ensures))
 
 pub find-spec : {M : Type 1} → statement M

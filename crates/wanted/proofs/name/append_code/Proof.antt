@@ -1,7 +1,7 @@
 -- `append_code` meets its contract: each way out appends the figures that `numeral` picks by the same tests. Assumes nothing.
 use borrow.Author.Needs.{needs}
 use borrow.Author.Tests.{lt-ltb, le-ltb}
-use Rattle.wanted.proofs.Spelling.{written-same}
+use Rattle.words.proofs.Placed.{writes-same}
 use Rattle.wanted.proofs.name.append_code.Statement.{statement}
 use Rattle.wanted.proofs.name.append_code.Tie as tie
 
@@ -19,7 +19,7 @@ same-length c = search needs
 
 returns : tie.Need-returns
 returns c =
-    written-same (rw (c .before .before .before .before .before .figure-of .ensures, lt-ltb _ _ (c .before .before .before .before .before .before .if1 .taken))) (c .before .before .append .ensures)
+    writes-same (rw (c .before .before .before .before .before .figure-of .ensures, lt-ltb _ _ (c .before .before .before .before .before .before .if1 .taken))) (c .before .before .append .ensures)
 
 figure-of-requires-2 : tie.Need-figure-of-requires-2
 figure-of-requires-2 c κs = search needs
@@ -38,7 +38,7 @@ same-length-2 c = search needs
 
 returns-2 : tie.Need-returns-2
 returns-2 c =
-    written-same (rw (c .before .before .before .before .before .before .figure-of2 .ensures, c .before .before .before .before .before .figure-of3 .ensures, le-ltb _ _ (c .before .before .before .before .before .before .before .before .if1 .left), lt-ltb _ _ (c .before .before .before .before .before .before .before .if2 .taken)))
+    writes-same (rw (c .before .before .before .before .before .before .figure-of2 .ensures, c .before .before .before .before .before .figure-of3 .ensures, le-ltb _ _ (c .before .before .before .before .before .before .before .before .if1 .left), lt-ltb _ _ (c .before .before .before .before .before .before .before .if2 .taken)))
     (c .before .before .append2 .ensures)
 
 figure-of-requires-4 : tie.Need-figure-of-requires-4
@@ -61,7 +61,7 @@ same-length-3 c = search needs
 
 returns-3 : tie.Need-returns-3
 returns-3 c =
-    written-same
+    writes-same
     (rw (c .before .before .before .before .before .before .before .figure-of4 .ensures, c .before .before .before .before .before .before .figure-of5 .ensures, c .before .before .before .before .before .figure-of6 .ensures, le-ltb _ _ (c .before .before .before .before .before .before .before .before .before .if1 .left), le-ltb _ _ (c .before .before .before .before .before .before .before .before .if2 .left)))
     (c .before .before .append3 .ensures)
 

@@ -2,7 +2,7 @@
 use mathlib.Core.Path.{sym, ap}
 use borrow.Author.Needs.{needs}
 use Rattle.wanted.specs.Names.{suffix}
-use Rattle.wanted.proofs.Spelling.{written-same}
+use Rattle.words.proofs.Placed.{writes-same}
 use Rattle.wanted.proofs.name.append_suffix.Statement.{statement}
 use Rattle.wanted.proofs.name.append_suffix.Tie as tie
 
@@ -35,18 +35,18 @@ append-suffix-spec =
     (λ c. search needs)
     (λ c κs. search needs)
     (λ c. search needs)
-    (λ c. written-same (ap suffix (sym (c .before .before .before .before .before .enum-told .given .1))) (c .before .before .append .ensures))
+    (λ c. writes-same (ap suffix (sym (c .before .before .before .before .before .enum-told .given .1))) (c .before .before .append .ensures))
     (λ c. search needs)
-    (λ c. written-same (ap suffix (sym (c .before .before .before .before .before .enum-told2 .given .1))) (c .before .before .append2 .ensures))
+    (λ c. writes-same (ap suffix (sym (c .before .before .before .before .before .enum-told2 .given .1))) (c .before .before .append2 .ensures))
     (λ c. search needs)
-    (λ c. written-same (ap suffix (sym (c .before .before .before .before .before .enum-told3 .given .1))) (c .before .before .append3 .ensures))
+    (λ c. writes-same (ap suffix (sym (c .before .before .before .before .before .enum-told3 .given .1))) (c .before .before .append3 .ensures))
     (λ c. search needs)
-    (λ c. written-same (ap suffix (sym (c .before .before .before .before .before .enum-told4 .given .1))) (c .before .before .append4 .ensures))
+    (λ c. writes-same (ap suffix (sym (c .before .before .before .before .before .enum-told4 .given .1))) (c .before .before .append4 .ensures))
     (λ c. search needs)
-    (λ c. written-same (ap suffix (sym (c .before .before .before .before .before .enum-told5 .given .1))) (c .before .before .append5 .ensures))
+    (λ c. writes-same (ap suffix (sym (c .before .before .before .before .before .enum-told5 .given .1))) (c .before .before .append5 .ensures))
     (λ c. search needs)
-    (λ c. written-same (ap suffix (sym (c .before .before .before .before .before .enum-told6 .given .1))) (c .before .before .append6 .ensures))
+    (λ c. writes-same (ap suffix (sym (c .before .before .before .before .before .enum-told6 .given .1))) (c .before .before .append6 .ensures))
     (λ c. search needs)
-    (λ c. written-same (ap suffix (sym (c .before .before .before .before .before .enum-told7 .given .1))) (c .before .before .append7 .ensures))
+    (λ c. writes-same (ap suffix (sym (c .before .before .before .before .before .enum-told7 .given .1))) (c .before .before .append7 .ensures))
     (λ c. search needs)
-    (λ c. written-same (ap suffix (sym (c .before .before .before .before .before .enum-told8 .given .1))) (c .before .before .append8 .ensures)))
+    (λ c. writes-same (ap suffix (sym (c .before .before .before .before .before .enum-told8 .given .1))) (c .before .before .append8 .ensures)))

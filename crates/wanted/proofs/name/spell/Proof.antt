@@ -2,7 +2,8 @@
 use native.Mathlib.Omega.{arith}
 use borrow.Author.Needs.{needs}
 use Rattle.wanted.specs.Names.{nameOf}
-use Rattle.wanted.proofs.Spelling.{written-joined, numeral-length}
+use Rattle.words.proofs.Placed.{writes-then}
+use Rattle.wanted.proofs.Spelling.{numeral-length}
 use Rattle.wanted.proofs.name.spell.Statement.{statement}
 use Rattle.wanted.proofs.name.spell.Tie as tie
 
@@ -19,7 +20,7 @@ slice-aggregate-append-2 : tie.Need-slice-aggregate-append-2
 slice-aggregate-append-2 c = search needs
 
 append-requires-2 : tie.Need-append-requires-2
-append-requires-2 c κs = omega (arith, numeral-length (c .before .before .before .before .before .before .before .before .before .before .before .before .args .code))
+append-requires-2 c κs = record { fits = omega (arith, numeral-length (c .before .before .before .before .before .before .before .before .before .before .before .before .args .code)) }
 
 append-suffix-requires : tie.Need-append-suffix-requires
 append-suffix-requires c κs = omega (arith, numeral-length (c .before .before .before .before .before .before .before .before .before .before .before .before .before .before .before .before .args .code))
@@ -30,9 +31,9 @@ same-length c = search needs
 returns : tie.Need-returns
 unfolding nameOf
 returns c =
-    written-joined (c .before .before .before .before .before .before .before .before .before .before .before .before .before .before .before .append .ensures)
-    (written-joined (c .before .before .before .before .before .before .before .before .before .before .before .append-code .ensures)
-    (written-joined (c .before .before .before .before .before .before .append2 .ensures) (c .before .before .append-suffix .ensures)))
+    writes-then _ _ (c .before .before .before .before .before .before .before .before .before .before .before .before .before .before .before .append .ensures)
+    (writes-then _ _ (c .before .before .before .before .before .before .before .before .before .before .before .append-code .ensures)
+    (writes-then _ _ (c .before .before .before .before .before .before .append2 .ensures) (c .before .before .append-suffix .ensures)))
 
 pub spell-spec : {M : Type 1} → statement M
 spell-spec =

@@ -6,10 +6,10 @@ use native.Mathlib.Omega.{arith}
 use borrow.Author.Needs.{needs}
 use lib.ListN.{length, take, getD, set, length-set}
 use lib.Seq.{take-all}
 use Rattle.words.specs.Over.{over}
 use Rattle.words.proofs.Over.{over-nil, over-turn}
-use Rattle.wanted.proofs.name.append.Statement.{statement}
-use Rattle.wanted.proofs.name.append.Tie as tie
+use Rattle.words.proofs.bytes.append.Statement.{statement}
+use Rattle.words.proofs.bytes.append.Tie as tie
 
 abbrev Inv-loop : tie.InvT-loop
 Inv-loop bytes out₀ at i₀ out i = (i ≤ length bytes) × (out ≡ over at (take i bytes) out₀) × (length out ≡ length out₀)
@@ -56,8 +56,8 @@ returns c =
     let a = c .before .before .args in
     let e : c .before .loop .i ≡ length (a .bytes .now) = omega arith in
     record {
-      place = ap (λ (i : ℕ). a .at + i) e;
-      written = c .before .loop .inv .1 ∙ ap (λ (x : List ℕ). over (a .at) x (a .out .now)) (take-all (c .before .loop .i) (a .bytes .now) (omega arith));
+      next = ap (λ (i : ℕ). a .at + i) e;
+      output = c .before .loop .inv .1 ∙ ap (λ (x : List ℕ). over (a .at) x (a .out .now)) (take-all (c .before .loop .i) (a .bytes .now) (omega arith));
     }
 
 pub append-spec : {M : Type 1} → statement M
