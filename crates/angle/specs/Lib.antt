@@ -3,3 +3,4 @@ pub mod Wrap
 pub mod Series
 pub mod Sine
 pub mod Range
+pub mod Finite

@@ -5,18 +5,26 @@ use mathlib.Core.Path.{_≡_, refl, sym, ap, subst}
 use mathlib.Core.Bool.{Bool, true, false, _&&_, _||_}
 use mathlib.Core.List.{List, [], _∷_, map}
 use borrow.Author.Tests.{leb-true}
-use lib.Dec.{eqb, leb, lit<}
+use lib.Dec.{eqb, leb, lit<, lit≤}
 use lib.Ieee.{Float, nan, binary64, round, ofBits}
 use lib.ListN.{length, getD}
 use Rattle.plain.specs.Choice.{if_then_else_}
 use Rattle.plain.specs.Doubles.{printed}
 use Rattle.plain.proofs.Bounded.{Under}
-use Rattle.rotation.specs.Finite.{Finite, SmallPolynomial, SmallCoefficients}
+use Rattle.rotation.specs.Elements.{Enough}
+use Rattle.rotation.specs.Codes.{systemOf}
+use Rattle.rotation.specs.Table.{rowOf, neptuneAngle, neptuneRA, neptuneDEC, neptunePM}
+use Rattle.rotation.specs.Builtin.{neptunes}
+use Rattle.rotation.specs.Finite.{Finite, SmallPolynomial, SmallValues, SmallInput}
+use Rattle.rotation.specs.Overflow.{NeverOverflows}
+use Rattle.rotation.specs.declared.code.System.the-variants.{Of}
+use Rattle.rotation.specs.declared.elements.Elements.{Elements}
 use Rattle.rotation.specs.declared.matrix.Orientation.{Orientation}
 use Rattle.rotation.specs.declared.matrix.Oriented.{Oriented}
 use Rattle.rotation.specs.declared.matrix.Oriented.the-variants as O
-use Rattle.rotation.proofs.Finite.{evaluated-finite}
-use Rattle.rotation.proofs.Answers.{builtin-finite}
+use Rattle.rotation.specs.declared.table.Row.the-variants.{Held}
+use Rattle.rotation.proofs.Overflow.{never-overflows}
+use Rattle.rotation.proofs.Answers.{row-never-overflows, builtin-finite}
 use Rattle.text.specs.Statements.{Statement}
 use Rattle.plain.proofs.Each.{Each, each-append, each-map, each-at, each-weaken}
 use Rattle.plain.proofs.Tests.{both, true-false}
@@ -30,35 +38,36 @@ use Rattle.variables.specs.Variables.{has, assigns, any, since, gives, variable
 use Rattle.variables.specs.Found.{doubles}
 use Rattle.variables.proofs.Presence.{absent-empty}
 use Rattle.wanted.specs.Names.{nameOf}
-use Rattle.wanted.specs.Elements.{there, list, ANGLES, polynomial, fewValues, nutating, enoughAngles, wellCounted}
+use Rattle.wanted.specs.Elements.{there, list, ANGLES, polynomial, elements, fewValues, nutating, enoughAngles, wellCounted, angles}
 use Rattle.globe.specs.Orientation.{orientationReply}
+use Rattle.wanted.specs.declared.name.Wanted.{Wanted}
 use Rattle.wanted.specs.declared.name.Wanted.the-variants as W
 use Rattle.globe.specs.declared.source.Source.{Source}
 use Rattle.globe.specs.declared.source.Source.the-variants as S
 use Rattle.promises.specs.Calls.{asked, library, oriented}
-use Rattle.promises.specs.Demands.{HasElements, NoOverflow}
+use Rattle.promises.specs.Demands.{NoOverflow}
 use Rattle.layout.proofs.Small.{small-below}
-use Rattle.promises.proofs.Oriented.{given-exactly}
+use Rattle.promises.proofs.Oriented.{given-exactly, builtin-exactly}
 
 -- ---- the values of a variable
 
 abbrev SmallBits : ℕ → Type 0
 SmallBits w = small w ≡ true
 
-abbrev pub SmallValues : Statement → Type 0
-SmallValues x = Each SmallBits (x .values)
+abbrev pub SmallStatement : Statement → Type 0
+SmallStatement x = Each SmallBits (x .values)
 
 module _ (name : List ℕ) where
-  each-since : (ss : List Statement) → Each SmallValues ss → Each SmallValues (since name ss)
+  each-since : (ss : List Statement) → Each SmallStatement ss → Each SmallStatement (since name ss)
   unfolding since
   each-since [] f = tt
   each-since (s ∷ ss) f = by (any (assigns name) ss) (each-since ss (f .1))
     where
-      by : (b : Bool) → Each SmallValues (since name ss) → Each SmallValues (if b then since name ss else (s ∷ ss))
+      by : (b : Bool) → Each SmallStatement (since name ss) → Each SmallStatement (if b then since name ss else (s ∷ ss))
       by true g = g
       by false g = f
 
-  given-small : (ss : List Statement) → Each SmallValues ss → Each SmallBits (flat (gives name) ss)
+  given-small : (ss : List Statement) → Each SmallStatement ss → Each SmallBits (flat (gives name) ss)
   unfolding flat
   given-small [] f = tt
   given-small (s ∷ ss) f = each-append SmallBits (gives name s) (flat (gives name) ss) (by (has name s)) (given-small ss (f .1))
@@ -67,7 +76,7 @@ module _ (name : List ℕ) where
       by true = f .0
       by false = tt
 
-  doubles-under : (s : Pool) → Each SmallValues (program s) → Each (Under 200) (doubles name s)
+  doubles-under : (s : Pool) → Each SmallStatement (program s) → Each (Under 200) (doubles name s)
   unfolding variable
   doubles-under s f =
       let g = given-small (since name (program s)) (each-since (program s) f) in
@@ -91,58 +100,104 @@ getD-under (x ∷ xs) (suc i) f = getD-under xs i (f .1)
 small-polynomial : (xs : List Float) → Each (Under 200) xs → SmallPolynomial (polynomial xs)
 small-polynomial xs f = record { c0 = getD-under xs 0 f .is; c1 = getD-under xs 1 f .is; c2 = getD-under xs 2 f .is }
 
-small-coefficients : (xs : List Float) → length xs ≤ 32 → Each (Under 200) xs → SmallCoefficients xs
-small-coefficients xs n f = record { few = n; each = λ i h. each-at (Under 200) xs i nan h f .is }
+small-values : (xs : List Float) → Each (Under 200) xs → SmallValues xs
+small-values xs f = record { each = λ i h. each-at (Under 200) xs i nan h f .is }
+
+record Counted (angles ra dec pm : List Float) : Type 0 where
+  few : length angles ≤ ANGLES
+  enough : Enough angles ra dec pm
+
+counted-there : (angles ra dec pm : List Float) → enoughAngles angles ra dec pm ≡ true → Counted angles ra dec pm
+counted-there angles ra dec pm e =
+    let l = length angles in
+    let most = 2 * max (length ra) (max (length dec) (length pm)) in
+    let a = both (eqb (l % 2) 0 && leb l ANGLES) (leb most l) e in
+    let m : most ≤ l = leb-true most l (a .1) in
+    record {
+      few = leb-true l ANGLES (both (eqb (l % 2) 0) (leb l ANGLES) (a .0) .1);
+      enough = record { forRA = omega arith; forDEC = omega arith; forPM = omega arith };
+    }
 
 module _ (s : Pool) (n k : ℕ) where
-  few-there : enoughAngles (list s k W.NutPrecAngles) (list s n W.NutPrecRa) (list s n W.NutPrecDec) (list s n W.NutPrecPm) ≡ true → length (list s n W.NutPrecDec) ≤ 32
-  few-there e =
-      let l = length (list s k W.NutPrecAngles) in
-      let most = 2 * max (length (list s n W.NutPrecRa)) (max (length (list s n W.NutPrecDec)) (length (list s n W.NutPrecPm))) in
-      let a = both (eqb (l % 2) 0 && leb l ANGLES) (leb most l) e in
-      let b = both (eqb (l % 2) 0) (leb l ANGLES) (a .0) in
-      omega (arith, leb-true most l (a .1), leb-true l ANGLES (b .1))
-
-  few-absent : nutating s n ≡ false → length (list s n W.NutPrecDec) ≤ 32
-  few-absent e =
+  counted-absent : nutating s n ≡ false → Counted [] (list s n W.NutPrecRa) (list s n W.NutPrecDec) (list s n W.NutPrecPm)
+  counted-absent e =
       let a = neither (there s n W.NutPrecRa || there s n W.NutPrecDec) (there s n W.NutPrecPm) e in
       let b = neither (there s n W.NutPrecRa) (there s n W.NutPrecDec) (a .0) in
-      omega (arith, ap length (absent-none (nameOf n W.NutPrecDec) s (b .1)))
+      record { few = lit≤ tt; enough = record { forRA = none W.NutPrecRa (b .0); forDEC = none W.NutPrecDec (b .1); forPM = none W.NutPrecPm (a .1) } }
     where
       neither : (x y : Bool) → (x || y) ≡ false → (x ≡ false) × (y ≡ false)
       neither true y e = true-false e
       neither false y e = (refl, e)
 
-  few-coefficients : wellCounted s n k ≡ true → length (list s n W.NutPrecDec) ≤ 32
-  few-coefficients e = by (nutating s n) refl (both (fewValues (list s n W.PoleRa) && fewValues (list s n W.PoleDec) && fewValues (list s n W.Pm)) _ e .1)
+      none : (w : Wanted) → there s n w ≡ false → 2 * length (list s n w) ≤ 0
+      none w e = omega (arith, ap length (absent-none (nameOf n w) s e))
+
+  counted : wellCounted s n k ≡ true → Counted (angles s n k) (list s n W.NutPrecRa) (list s n W.NutPrecDec) (list s n W.NutPrecPm)
+  counted e = by (nutating s n) refl (both (fewValues (list s n W.PoleRa) && fewValues (list s n W.PoleDec) && fewValues (list s n W.Pm)) _ e .1)
     where
       by : (b : Bool) → nutating s n ≡ b
           → (if b then enoughAngles (list s k W.NutPrecAngles) (list s n W.NutPrecRa) (list s n W.NutPrecDec) (list s n W.NutPrecPm) else true) ≡ true
-          → length (list s n W.NutPrecDec) ≤ 32
-      by true q h = few-there h
-      by false q h = few-absent q
+          → Counted (if b then list s k W.NutPrecAngles else []) (list s n W.NutPrecRa) (list s n W.NutPrecDec) (list s n W.NutPrecPm)
+      by true q h = counted-there (list s k W.NutPrecAngles) (list s n W.NutPrecRa) (list s n W.NutPrecDec) (list s n W.NutPrecPm) h
+      by false q h = counted-absent q
+
+  small-input : Each SmallStatement (program s) → wellCounted s n k ≡ true
+      → SmallInput (elements s n) (angles s n k) (list s n W.NutPrecRa) (list s n W.NutPrecDec) (list s n W.NutPrecPm)
+  small-input f e =
+      let c = counted e in
+      record {
+        poleRA = small-polynomial (list s n W.PoleRa) (under n W.PoleRa);
+        poleDEC = small-polynomial (list s n W.PoleDec) (under n W.PoleDec);
+        meridian = small-polynomial (list s n W.Pm) (under n W.Pm);
+        few = c .few;
+        enough = c .enough;
+        system = system (nutating s n);
+        forRA = small-values (list s n W.NutPrecRa) (under n W.NutPrecRa);
+        forDEC = small-values (list s n W.NutPrecDec) (under n W.NutPrecDec);
+        forPM = small-values (list s n W.NutPrecPm) (under n W.NutPrecPm);
+      }
+    where
+      under : (i : ℕ) (w : Wanted) → Each (Under 200) (list s i w)
+      under i w = doubles-under (nameOf i w) s f
+
+      system : (b : Bool) → SmallValues (if b then list s k W.NutPrecAngles else [])
+      system true = small-values (list s k W.NutPrecAngles) (under k W.NutPrecAngles)
+      system false = small-values [] tt
 
 -- ---- every orientation
 
-elements-finite : (s : Pool) (n : ℕ) (epoch : Float) (o : Orientation) → Each SmallValues (program s) → HasElements s n epoch o → Finite o
-elements-finite s n epoch o f h =
-    let dec = doubles-under (nameOf n W.PoleDec) s f in
-    let cs = doubles-under (nameOf n W.NutPrecDec) s f in
-    subst Finite (sym (h .evaluation))
-    (evaluated-finite _ epoch _ _ (list s n W.NutPrecDec) _ (h .reach) (small-polynomial (list s n W.PoleDec) dec)
-    (small-coefficients (list s n W.NutPrecDec) (few-coefficients s n (h .system) (h .counts)) cs))
+module _ (m : List ℕ) (n : ℕ) (epoch : Float) (o : Orientation) where
+  pool-steps : (k : ℕ) → orientationReply S.Pool m n epoch ≡ O.Given o → systemOf n ≡ Of k
+      → NeverOverflows (elements (decode m) n) epoch (angles (decode m) n k)
+      (list (decode m) n W.NutPrecRa) (list (decode m) n W.NutPrecDec) (list (decode m) n W.NutPrecPm)
+  pool-steps k e l =
+      let h = given-exactly m n epoch o .0 e in
+      let fair = decode-legal m (sound-of m (h .0)) .statements in
+      let legal = h .1 .legal in
+      let same : h .1 .system ≡ k = cc in
+      never-overflows _ epoch _ _ _ _ (h .1 .reach)
+      (small-input (decode m) n k (each-weaken Fair SmallStatement (λ x g. g .small) (program (decode m)) fair)
+      (subst (λ (i : ℕ). wellCounted (decode m) n i ≡ true) same (h .1 .counts)))
+
+  table-steps : (row : Elements) → orientationReply S.Builtin m n epoch ≡ O.Given o → rowOf n ≡ Held row
+      → NeverOverflows row epoch (neptunes n neptuneAngle) (neptunes n neptuneRA) (neptunes n neptuneDEC) (neptunes n neptunePM)
+  table-steps row e l = row-never-overflows n epoch row (builtin-exactly m n epoch o .0 e .reach) l
 
 finite : (source : Source) (m : List ℕ) (n : ℕ) (epoch : Float) (o : Orientation) → orientationReply source m n epoch ≡ O.Given o → Finite o
 unfolding orientationReply
 finite S.Builtin m n epoch o e = builtin-finite n epoch o e
 finite S.Pool m n epoch o e =
-    let h = given-exactly m n epoch o .0 e in
-    let fair = decode-legal m (sound-of m (h .0)) .statements in
-    elements-finite (decode m) n epoch o (each-weaken Fair SmallValues (λ x g. g .small) (program (decode m)) fair) (h .1)
+    let h = given-exactly m n epoch o .0 e .1 in
+    subst Finite (sym (h .evaluation)) (pool-steps m n epoch o (h .system) e (h .legal) .answer)
 
 pub no-overflow : NoOverflow library
 unfolding asked
-no-overflow source m n epoch o e = finite source m n epoch o (same e)
+no-overflow =
+    record {
+      answers = λ source m n epoch o e. finite source m n epoch o (same e);
+      pools = λ m n k epoch o e l. pool-steps m n epoch o k (same e) l;
+      tables = λ m n epoch o row e l. table-steps m n epoch o row (same e) l;
+    }
   where
-    same : {r : Oriented} → oriented r ≡ oriented (O.Given o) → r ≡ O.Given o
+    same : {r : Oriented} {o : Orientation} → oriented r ≡ oriented (O.Given o) → r ≡ O.Given o
     same e = cc

@@ -12,10 +12,11 @@ use Rattle.refusal.specs.declared.Refusal.{Refusal}
 use Rattle.rotation.specs.Epochs.{inReach}
 use Rattle.rotation.specs.Codes.{systemOf}
 use Rattle.rotation.specs.Evaluation.{evaluated}
-use Rattle.rotation.specs.Table.{rowOf, sizeOf}
-use Rattle.rotation.specs.Builtin.{rowEvaluated}
+use Rattle.rotation.specs.Table.{rowOf, neptuneAngle, neptuneRA, neptuneDEC, neptunePM, sizeOf}
+use Rattle.rotation.specs.Builtin.{neptunes, rowEvaluated}
 use Rattle.rotation.specs.Range.{InRange}
 use Rattle.rotation.specs.Finite.{Finite}
+use Rattle.rotation.specs.Overflow.{NeverOverflows}
 use Rattle.rotation.specs.declared.code.System.the-variants.{Of}
 use Rattle.rotation.specs.declared.elements.Elements.{Elements}
 use Rattle.rotation.specs.declared.matrix.Orientation.{Orientation}
@@ -187,11 +188,21 @@ pub record Demand2 (b : Build) : Type 0 where
       (source : Source) (m : List ℕ) (n : ℕ) (epoch : Float) (o : Orientation)
       → b .answer (orientation source n epoch) m ≡ oriented (O.Given o) → InRange o
 
--- "every held value finite and of size below 2^200, so that no evaluation overflows"
-abbrev pub NoOverflow : Build → Type 0
-NoOverflow b =
-    (source : Source) (m : List ℕ) (n : ℕ) (epoch : Float) (o : Orientation)
-    → b .answer (orientation source n epoch) m ≡ oriented (O.Given o) → Finite o
+-- "every held value finite and of size below 2^200, so that no evaluation overflows": no number of an orientation that is given, and no
+-- result on the way to it, by the elements that the source has for the body
+pub record NoOverflow (b : Build) : Type 0 where
+  pub answers :
+      (source : Source) (m : List ℕ) (n : ℕ) (epoch : Float) (o : Orientation)
+      → b .answer (orientation source n epoch) m ≡ oriented (O.Given o) → Finite o
+  pub pools :
+      (m : List ℕ) (n system : ℕ) (epoch : Float) (o : Orientation)
+      → b .answer (orientation S.Pool n epoch) m ≡ oriented (O.Given o) → systemOf n ≡ Of system
+      → NeverOverflows (elements (decode m) n) epoch (angles (decode m) n system)
+      (list (decode m) n W.NutPrecRa) (list (decode m) n W.NutPrecDec) (list (decode m) n W.NutPrecPm)
+  pub tables :
+      (m : List ℕ) (n : ℕ) (epoch : Float) (o : Orientation) (row : Elements)
+      → b .answer (orientation S.Builtin n epoch) m ≡ oriented (O.Given o) → rowOf n ≡ Held row
+      → NeverOverflows row epoch (neptunes n neptuneAngle) (neptunes n neptuneRA) (neptunes n neptuneDEC) (neptunes n neptunePM)
 
 -- "the two are never blended"; "fifteen is not checked where the built-in source is named": a table's answer does not look at the memory, and a
 -- pool's only at its texts

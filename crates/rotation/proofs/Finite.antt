@@ -1,28 +1,20 @@
--- No evaluation overflows: wrap bounds right ascension and meridian, sine and cosine are bounded for every angle, and the declination is
--- where its polynomial and coefficients are. Assumes nothing.
+-- The matrix is finite for every right ascension and meridian, and every declination that is: sine and cosine are bounded for every angle.
+-- Assumes nothing.
 use mathlib.Core.Path.{_≡_}
 use mathlib.Core.Bool.{true}
-use mathlib.Core.List.{List}
-use Prim.Native.Nat.{ℕ, zero, suc, _+_, _*_, _≤_, _<_}
-use native.Mathlib.Omega.{arith}
 use lib.Dec.{lit≤}
-use lib.ListN.{length, getD}
-use lib.Ieee.{Float, nan}
+use lib.Ieee.{Float}
+use lib.Ieee.Scale.{finite}
 use Rattle.plain.specs.Doubles.{_⊖_, _⊗_}
-use Rattle.plain.proofs.Bounded.{Under, finite-under, weaken-under, neg-under, ⊕-under, ⊖-under, ⊗-under}
+use Rattle.plain.proofs.Bounded.{Under, finite-under, weaken-under, neg-under, ⊖-under, ⊗-under}
 use Rattle.angle.specs.Wrap.{wrapped}
-use Rattle.angle.proofs.Sizes.{wrapped-under, sine-cosine-under}
-use Rattle.rotation.specs.Epochs.{days, centuries, inReach}
-use Rattle.rotation.specs.Elements.{byCentury, cosine, nutated, nutatedAll}
+use Rattle.angle.specs.declared.sine.SineCosine.{SineCosine}
+use Rattle.angle.proofs.Sizes.{UnderBoth, wrapped-under, sine-cosine-under, wrap-finite, sine-finite}
 use Rattle.rotation.specs.Matrix.{oriented}
-use Rattle.rotation.specs.Evaluation.{evaluated}
-use Rattle.rotation.specs.Finite.{Finite, SmallPolynomial, SmallCoefficients}
-use Rattle.rotation.specs.declared.epoch.Centuries.{Centuries}
-use Rattle.rotation.specs.declared.elements.Polynomial.{Polynomial}
-use Rattle.rotation.specs.declared.elements.Elements.{Elements}
-use Rattle.rotation.proofs.Reach.{centuries-under}
+use Rattle.rotation.specs.Finite.{Finite}
+use Rattle.rotation.specs.Overflow.{FiniteProducts, FiniteMatrix}
+use Rattle.rotation.specs.declared.nutation.Sums.{Sums}
 
--- ---- the record
 two : {x y : Float} → Under 233 x → Under 233 y → Under 467 (x ⊗ y)
 two a b = ⊗-under {j = 233} {k = 233} (lit≤ tt) a b
 
@@ -33,7 +25,7 @@ difference : {x y : Float} → Under 467 x → Under 701 y → Under 703 (x ⊖ 
 difference a b = ⊖-under {j = 701} (lit≤ tt) (weaken-under 701 (lit≤ tt) a) b
 
 -- all is finite, whatever the angles are, if the declination is
-oriented-finite : {k : ℕ} (ra dec w : Float) → Under k dec → Finite (oriented ra dec w)
+pub oriented-finite : (ra dec w : Float) → finite dec ≡ true → Finite (oriented ra dec w)
 unfolding oriented
 oriented-finite ra dec w D =
     let a = sine-cosine-under (wrapped ra) in
@@ -41,7 +33,7 @@ oriented-finite ra dec w D =
     let m = sine-cosine-under (wrapped w) in
     record {
       ra = finite-under _ (wrapped-under ra);
-      dec = finite-under _ D;
+      dec = D;
       w = finite-under _ (wrapped-under w);
       m11 = finite-under _ (difference (neg-under (two (m .cosine) (a .sine))) (three (m .sine) (d .sine) (a .cosine)));
       m12 = finite-under _ (difference (two (m .cosine) (a .cosine)) (three (m .sine) (d .sine) (a .sine)));
@@ -54,26 +46,31 @@ oriented-finite ra dec w D =
       m33 = finite-under _ (d .sine);
     }
 
--- ---- the declination
-polynomial-under : (p : Polynomial) (t : Centuries) → Under 40 (t .0) → Under 200 (p .c0) → Under 200 (p .c1) → Under 200 (p .c2) → Under 434 (byCentury p t)
-polynomial-under p t T a b c =
-    let x = ⊕-under {j = 241} (lit≤ tt) (weaken-under 241 (lit≤ tt) b) (⊗-under {j = 40} {k = 200} (lit≤ tt) T c) in
-    weaken-under 434 (lit≤ tt) (⊕-under {j = 284} (lit≤ tt) (weaken-under 284 (lit≤ tt) a) (⊗-under {j = 40} {k = 243} (lit≤ tt) T x))
+products-finite : {a d m : SineCosine} → UnderBoth a → UnderBoth d → UnderBoth m → FiniteProducts a d m
+products-finite a d m =
+    record {
+      cw-sa = finite-under _ (two (m .cosine) (a .sine));
+      cw-ca = finite-under _ (two (m .cosine) (a .cosine));
+      sw-sa = finite-under _ (two (m .sine) (a .sine));
+      sw-ca = finite-under _ (two (m .sine) (a .cosine));
+      sw-sd = finite-under _ (two (m .sine) (d .sine));
+      cw-sd = finite-under _ (two (m .cosine) (d .sine));
+      sw-sd-ca = finite-under _ (three (m .sine) (d .sine) (a .cosine));
+      sw-sd-sa = finite-under _ (three (m .sine) (d .sine) (a .sine));
+      cw-sd-ca = finite-under _ (three (m .cosine) (d .sine) (a .cosine));
+      cw-sd-sa = finite-under _ (three (m .cosine) (d .sine) (a .sine));
+    }
 
--- a term adds 2 to the exponent at most
-nutated-under : (t : Centuries) (angles cs : List Float) (start : Float) (n : ℕ) → n ≤ 32
-    → ((i : ℕ) → i < n → Under 200 (getD cs i nan)) → Under 434 start → Under (434 + 2 * n) (nutated cosine t angles cs start n)
-unfolding nutated
-nutated-under t angles cs start zero N C S = S
-nutated-under t angles cs start (suc n) N C S =
-    let x = nutated-under t angles cs start n (omega arith) (λ i h. C i (omega arith)) S in
-    let y = ⊗-under {j = 200} {k = 233} (lit≤ tt) (C n (omega arith)) (sine-cosine-under _ .cosine) in
-    weaken-under (434 + 2 * suc n) (omega arith) (⊕-under {j = 434 + 2 * n} (omega arith) x (weaken-under (434 + 2 * n) (omega arith) y))
-
-pub evaluated-finite : (e : Elements) (epoch : Float) (angles ra dec pm : List Float)
-    → inReach epoch ≡ true → SmallPolynomial (e .dec) → SmallCoefficients dec → Finite (evaluated e epoch angles ra dec pm)
-unfolding evaluated nutatedAll
-evaluated-finite e epoch angles ra dec pm h p cs =
-    let t = centuries (days epoch) in
-    let start = polynomial-under (e .dec) t (centuries-under epoch h) (record { is = p .c0 }) (record { is = p .c1 }) (record { is = p .c2 }) in
-    oriented-finite _ _ _ (nutated-under t angles dec (byCentury (e .dec) t) (length dec) (cs .few) (λ i g. record { is = cs .each i g }) start)
+pub matrix-finite : (s : Sums) → finite (s .ra) ≡ true → finite (s .dec) ≡ true → finite (s .w) ≡ true → FiniteMatrix s
+matrix-finite s a d w =
+    record {
+      RA = a;
+      DEC = d;
+      W = w;
+      wrapRA = wrap-finite _ a;
+      wrapW = wrap-finite _ w;
+      pairRA = sine-finite _ (finite-under _ (wrapped-under (s .ra)));
+      pairDEC = sine-finite _ d;
+      pairW = sine-finite _ (finite-under _ (wrapped-under (s .w)));
+      products = products-finite (sine-cosine-under _) (sine-cosine-under _) (sine-cosine-under _);
+    }

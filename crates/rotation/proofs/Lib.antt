@@ -3,5 +3,6 @@ pub mod Range
 pub mod Reach
 mod Terms
 pub mod Finite
+pub mod Overflow
 pub mod Given
 pub mod Answers

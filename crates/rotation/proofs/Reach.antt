@@ -1,4 +1,4 @@
--- An epoch in reach is finite, and so are the centuries that it counts. Assumes nothing.
+-- An epoch in reach is finite, and so are the days and centuries that it counts. Assumes nothing.
 use mathlib.Core.Path.{_≡_, sym}
 use mathlib.Core.Bool.{Bool, true, false, _&&_, _||_, true≢false}
 use mathlib.Core.Logic.{inl, inr}
@@ -46,6 +46,10 @@ epoch-under epoch h =
     let b = le epoch farthest in
     record { is = between epoch (both a b h .0) (both a b h .1) }
 
+pub days-under : (epoch : Float) → inReach epoch ≡ true → Under 39 (days epoch .0)
+unfolding days printed round
+days-under epoch h = ⊘-under (printed 86400 0) (lit≤ tt) (lit≤ tt) (epoch-under epoch h)
+
 pub centuries-under : (epoch : Float) → inReach epoch ≡ true → Under 40 (centuries (days epoch) .0)
-unfolding days centuries printed round
-centuries-under epoch h = ⊘-under (printed 36525 0) (lit≤ tt) (lit≤ tt) (⊘-under (printed 86400 0) (lit≤ tt) (lit≤ tt) (epoch-under epoch h))
+unfolding centuries printed round
+centuries-under epoch h = ⊘-under (printed 36525 0) (lit≤ tt) (lit≤ tt) (days-under epoch h)

@@ -1,6 +1,6 @@
 -- The answers of the built-in source, and their refusals: 9, then 10. Definitions only.
 use Prim.Native.Nat.{ℕ}
-use mathlib.Core.List.{[]}
+use mathlib.Core.List.{List, []}
 use lib.Dec.{eqb}
 use lib.Ieee.{Float}
 use Rattle.plain.specs.Choice.{if_then_else_}
@@ -22,11 +22,14 @@ use Rattle.rotation.specs.declared.table.Size.the-variants.{Known, NoSiz
 use Rattle.rotation.specs.declared.table.Radii.{Radii}
 use Rattle.rotation.specs.declared.table.Radii.the-variants as A
 
--- a row at an epoch: Neptune has an angle, the others have none
+-- a list that Neptune has, and the others have empty
+abbrev pub neptunes : ℕ → List Float → List Float
+neptunes n xs = if eqb n 899 then xs else []
+
+-- a row at an epoch
 unfoldable pub rowEvaluated : ℕ → Elements → Float → Orientation
 unfolding evaluated
-rowEvaluated n e epoch =
-    if eqb n 899 then evaluated e epoch neptuneAngle neptuneRA neptuneDEC neptunePM else evaluated e epoch [] [] [] []
+rowEvaluated n e epoch = evaluated e epoch (neptunes n neptuneAngle) (neptunes n neptuneRA) (neptunes n neptuneDEC) (neptunes n neptunePM)
 
 abbrev pub byRow : ℕ → Float → Row → Oriented
 byRow n epoch (Held e) = O.Given (rowEvaluated n e epoch)

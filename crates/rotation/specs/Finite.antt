@@ -1,4 +1,5 @@
--- "Every held value finite and of size below 2^200, so that no evaluation overflows." Definitions only.
+-- "Every held value finite and of size below 2^200, so that no evaluation overflows": what is evaluated, and what is answered. Definitions
+-- only.
 use Prim.Native.Nat.{ℕ, _≤_, _<_}
 use mathlib.Core.Path.{_≡_}
 use mathlib.Core.Bool.{true}
@@ -7,7 +8,9 @@ use lib.Ieee.{Float, nan}
 use lib.Ieee.Scale.{finite}
 use lib.ListN.{length, getD}
 use Rattle.plain.specs.Sizes.{Below}
+use Rattle.rotation.specs.Elements.{Enough}
 use Rattle.rotation.specs.declared.elements.Polynomial.{Polynomial}
+use Rattle.rotation.specs.declared.elements.Elements.{Elements}
 use Rattle.rotation.specs.declared.matrix.Orientation.{Orientation}
 
 -- each of the twelve numbers is neither a NaN nor an infinity
@@ -31,7 +34,17 @@ pub record SmallPolynomial (p : Polynomial) : Type 0 where
   pub c1 : Below 200 (p .c1)
   pub c2 : Below 200 (p .c2)
 
--- one for each of at most 32 angles
-pub record SmallCoefficients (cs : List Float) : Type 0 where
-  pub few : length cs ≤ 32
-  pub each : (i : ℕ) → i < length cs → Below 200 (getD cs i nan)
+pub record SmallValues (xs : List Float) : Type 0 where
+  pub each : (i : ℕ) → i < length xs → Below 200 (getD xs i nan)
+
+-- of elements, of at most 64 values of angles, and of coefficients that each have an angle
+pub record SmallInput (e : Elements) (angles ra dec pm : List Float) : Type 0 where
+  pub poleRA : SmallPolynomial (e .ra)
+  pub poleDEC : SmallPolynomial (e .dec)
+  pub meridian : SmallPolynomial (e .pm)
+  pub few : length angles ≤ 64
+  pub enough : Enough angles ra dec pm
+  pub system : SmallValues angles
+  pub forRA : SmallValues ra
+  pub forDEC : SmallValues dec
+  pub forPM : SmallValues pm

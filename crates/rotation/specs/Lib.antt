@@ -9,3 +9,4 @@ pub mod Table
 pub mod Builtin
 pub mod Range
 pub mod Finite
+pub mod Overflow
