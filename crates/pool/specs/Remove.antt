@@ -18,9 +18,13 @@ unfoldable pub without : ℕ → Pool → Pool
 without label [] = []
 without label (t ∷ ts) = if eqb (t .label) label then ts else (t ∷ without label ts)
 
+-- on the state
+abbrev pub removeAnswer : (label : ℕ) → Pool → Reply
+removeAnswer label s = if held label s then Done else refusing NotHeld
+
 unfoldable pub removeReply : (label : ℕ) (m : List ℕ) → Reply
 unfolding held
-removeReply label m = if sound m then (if held label (decode m) then Done else refusing NotHeld) else refusing DamagedPool
+removeReply label m = if sound m then removeAnswer label (decode m) else refusing DamagedPool
 
 unfoldable pub removeMemory : (label : ℕ) (m : List ℕ) → List ℕ
 unfolding removeReply without

@@ -4,6 +4,14 @@ use Prim.Native.Nat.{ℕ}
 use mathlib.Core.Path.{_≡_, refl, sym}
 use mathlib.Core.Bool.{true, true≢false}
 use mathlib.Core.List.{List}
+use lib.ListN.{length}
+use Rattle.pool.specs.Empty.{emptyReply, clearReply}
+use Rattle.pool.specs.Load.{loadReply}
+use Rattle.pool.specs.Remove.{removeReply}
+use Rattle.pool.specs.Fetch.{fetchReply, fetchBuffer}
+use Rattle.pool.specs.Totals.{totalsReply}
+use Rattle.globe.specs.Orientation.{orientationReply}
+use Rattle.globe.specs.Radii.{radiiReply}
 use Rattle.promises.specs.Calls as C
 use Rattle.promises.specs.Calls.{Call, asked, leaves, query, library}
 use Rattle.promises.specs.Demands.{Contracts, NoSecondAnswer}
@@ -22,14 +30,18 @@ queries (C.radii source code) m e = refl
 pub contracts : Contracts library
 unfolding asked leaves
 contracts = record {
-  makeEmpty = λ m r e. record { reply = cc; memory = refl };
-  load = λ label bytes m r e. record { reply = cc; memory = refl };
-  remove = λ label m r e. record { reply = cc; memory = refl };
-  clear = λ m r e. record { reply = cc; memory = refl };
-  fetch = λ name m buffer after r e. record { reply = cc; buffer = cc };
-  totals = λ m r e. record { reply = cc };
-  orientation = λ source m n epoch r e. record { reply = cc };
-  radii = λ source m n r e. record { reply = cc };
+  makeEmpty = λ m. record { told = emptyReply m; is = refl; contract = record { reply = refl; memory = refl } };
+  load = λ label bytes m. record { told = loadReply label bytes m; is = refl; contract = record { reply = refl; memory = refl } };
+  remove = λ label m. record { told = removeReply label m; is = refl; contract = record { reply = refl; memory = refl } };
+  clear = λ m. record { told = clearReply m; is = refl; contract = record { reply = refl; memory = refl } };
+  fetch = λ name m buffer. record {
+    told = (fetchReply name (length buffer) m, fetchBuffer name m buffer);
+    is = refl;
+    contract = record { reply = refl; buffer = refl };
+  };
+  totals = λ m. record { told = totalsReply m; is = refl; contract = record { reply = refl } };
+  orientation = λ source m n epoch. record { told = orientationReply source m n epoch; is = refl; contract = record { reply = refl } };
+  radii = λ source m n. record { told = radiiReply source m n; is = refl; contract = record { reply = refl } };
   queries = queries;
 }
 

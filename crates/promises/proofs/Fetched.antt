@@ -35,13 +35,13 @@ over-start (x ∷ xs) [] h = absurd (not-suc-le-zero h)
 over-start (x ∷ xs) (y ∷ m) h = ap (λ (l : List Float). x ∷ l) (over-start xs m (le-of-suc-le-suc h))
 
 -- so many are told, and the buffer is the values and what it held behind them
-record Written (xs buffer : List Float) (r : Fetched) (after : List Float) : Type 0 where
-  told : fetchedCount r ≡ length xs
-  holds : after ≡ xs ++ drop (length xs) buffer
+pub record Written (xs buffer : List Float) (r : Fetched) (after : List Float) : Type 0 where
+  pub told : fetchedCount r ≡ length xs
+  pub holds : after ≡ xs ++ drop (length xs) buffer
 
 module _ (name : List ℕ) (s : Pool) (buffer : List Float) where
   -- what is found, if the call is done, is written
-  abbrev WrittenBy : Found → Type 0
+  abbrev pub WrittenBy : Found → Type 0
   WrittenBy f =
       eqb (fetchedNumber (fetched f)) SUCCESS ≡ true → Written (doubles name s) buffer (fetched f) (filled f (doubles name s) buffer)
 
@@ -61,7 +61,7 @@ module _ (name : List ℕ) (s : Pool) (buffer : List Float) where
   by-presence true h = by-room (leb (length (variable name s)) (length buffer)) refl h
   by-presence false h = absurd (true≢false (sym h))
 
-  found-written : WrittenBy (foundIn name (length buffer) s)
+  pub found-written : WrittenBy (foundIn name (length buffer) s)
   unfolding foundIn
   found-written h = by-presence (present name s) h
 

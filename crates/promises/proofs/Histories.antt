@@ -1,4 +1,4 @@
--- Demand 3: after any sequence of calls the pool holds the texts that are still kept, and so does an empty pool into which they are
+-- After any sequence of calls the pool holds the texts that are still kept, and so does an empty pool into which they are
 -- loaded, each load being accepted; and every answer is a function of the texts held. Assumes nothing.
 use Prim.Native.Nat.{ℕ}
 use mathlib.Core.Path.{_≡_, refl, sym, ap, _∙_, subst}
@@ -19,7 +19,7 @@ use Rattle.pool.specs.Remove.{without}
 use Rattle.pool.specs.declared.reply.Reply.the-variants.{Done}
 use Rattle.promises.specs.Calls as C
 use Rattle.promises.specs.Calls.{Call, asked, leaves, library, accepted}
-use Rattle.promises.specs.Histories.{Loaded, loading, removing, kept, after, still, Fresh, Demand3, Onward, AllAccepted, Replayed, text, OfHeldTexts}
+use Rattle.promises.specs.Histories.{Loaded, loading, removing, kept, after, still, Fresh, Replay, Onward, AllAccepted, Replayed, text, OfHeldTexts}
 use Rattle.promises.proofs.Refusals.{accepted-done}
 use Rattle.promises.proofs.Accepted.{taken-done, done-taken}
 use Rattle.promises.proofs.Together.{Together, together-none, map-last, together-last, map-removing, together-removing, together-taken}
@@ -133,7 +133,7 @@ loads-accepted (k ∷ ks) m before h g = (
       (subst Together (sym (append-assoc before (k ∷ []) ks)) g),
 )
 
--- ---- the demand
+-- ---- the claims
 
 pub replayed : Replayed library
 replayed m m′ f f′ history =
@@ -162,9 +162,9 @@ onward m m′ f f′ history further c =
     asked-says c (after library further x) (i .undamaged) ∙ ap (says c) (i .state ∙ sym (j .state))
     ∙ sym (asked-says c (after library further y) (j .undamaged))
 
-pub demand-3 : Demand3 library
+pub replay : Replay library
 unfolding after
-demand-3 m m′ f f′ history c = onward m m′ f f′ history [] c
+replay m m′ f f′ history c = onward m m′ f f′ history [] c
 
 pub of-held-texts : OfHeldTexts library
 unfolding says

@@ -1,10 +1,11 @@
 -- Small instances at which the definitions compute: an undamaged empty memory, and what the built-in table gives. Assumes nothing.
-use Prim.Native.Nat.{ℕ}
-use mathlib.Core.Path.{_≡_, refl}
+use Prim.Native.Nat.{ℕ, _<_}
+use mathlib.Core.Path.{_≡_, refl, _∙_}
 use mathlib.Core.Bool.{true, false}
-use mathlib.Core.List.{List, []}
-use lib.Dec.{eqb, lit≤}
-use lib.ListN.{replicate}
+use mathlib.Core.List.{List, [], _∷_}
+use lib.Dec.{eqb, lit<, lit≤}
+use lib.Ieee.{Float}
+use lib.ListN.{length, replicate}
 use Rattle.plain.specs.Doubles.{printed}
 use Rattle.rotation.specs.Epochs.{inReach}
 use Rattle.rotation.specs.Codes.{systemOf}
@@ -18,9 +19,13 @@ use Rattle.words.specs.Halves.{sum, distinct, all}
 use Rattle.layout.specs.Limits.{WORDS}
 use Rattle.layout.specs.Memory.{decode, cutTexts, cutStatements}
 use Rattle.layout.specs.Damage.{sound, allNamed}
+use Rattle.pool.specs.Load.{textOf}
+use Rattle.promises.specs.Calls as C
+use Rattle.promises.specs.Calls.{leaves}
 use Rattle.promises.specs.Marked.{nought, bits}
 use Rattle.promises.specs.Demands.{Admissible, HasRow}
 use Rattle.promises.proofs.Computing.{computing, loading, evaluating}
+use Rattle.promises.proofs.Steps.{step, Is, leaves-is}
 
 -- ---- a memory of noughts is an empty pool, which can take the empty text
 
@@ -46,7 +51,32 @@ empty-text = record {
   roomy = rw noughts-empty;
 }
 
--- ---- Earth and Sun at 0
+-- ---- the same with one text held, which can take another
+
+unfoldable pub holding : List ℕ
+holding = leaves (C.load 1 []) noughts
+
+holding-is : Is holding (textOf 1 [] ∷ [])
+unfolding holding step loading
+holding-is =
+    let i = leaves-is noughts noughts-sound (C.load 1 []) in
+    record { undamaged = i .undamaged; state = i .state ∙ rw noughts-empty }
+
+pub holding-one : 0 < length (decode holding)
+holding-one = rw (holding-is .state) (lit< tt)
+
+pub second-text : Admissible 2 [] holding
+unfolding loading
+second-text = record {
+  undamaged = holding-is .undamaged;
+  free = rw (holding-is .state);
+  short = lit≤ tt;
+  events = [];
+  admitted = refl;
+  roomy = rw (holding-is .state);
+}
+
+-- ---- Earth at 0 and a day later, the Sun at 0
 
 earth : Elements
 earth = record {
@@ -61,6 +91,12 @@ sun = record { ra = straight (printed 28613 2) missing; dec = straight (printed 
 pub earthAt0 : Orientation
 earthAt0 = rowEvaluated 399 earth nought
 
+pub aDay : Float
+aDay = printed 86400 0
+
+pub earthAfterADay : Orientation
+earthAfterADay = rowEvaluated 399 earth aDay
+
 pub sunAt0 : Orientation
 sunAt0 = rowEvaluated 10 sun nought
 
@@ -68,9 +104,17 @@ at-0 : inReach nought ≡ true
 unfolding evaluating
 at-0 = refl
 
+a-day-later : inReach aDay ≡ true
+unfolding aDay evaluating
+a-day-later = refl
+
 pub earth-given : HasRow 399 nought earthAt0
 unfolding systemOf rowOf earth earthAt0
 earth-given = record { reach = at-0; system = 3; legal = refl; row = earth; listed = refl; evaluation = refl }
+
+pub later-given : HasRow 399 aDay earthAfterADay
+unfolding systemOf rowOf earth earthAfterADay
+later-given = record { reach = a-day-later; system = 3; legal = refl; row = earth; listed = refl; evaluation = refl }
 
 pub sun-given : HasRow 10 nought sunAt0
 unfolding systemOf rowOf sun sunAt0
@@ -79,6 +123,10 @@ sun-given = record { reach = at-0; system = 10; legal = refl; row = sun; listed 
 pub earth-ra : eqb (bits (earthAt0 .ra)) 0 ≡ true
 unfolding earthAt0 earth evaluating
 earth-ra = refl
+
+pub later-ra : eqb (bits (earthAfterADay .ra)) 0 ≡ false
+unfolding earthAfterADay aDay earth evaluating
+later-ra = refl
 
 pub sun-ra : eqb (bits (sunAt0 .ra)) 0 ≡ false
 unfolding sunAt0 sun evaluating

@@ -2,6 +2,7 @@
 pub mod Contracts
 pub mod Refusals
 pub mod Reports
+pub mod Order
 pub mod Fetched
 pub mod Accepted
 pub mod Oriented
@@ -11,11 +12,13 @@ pub mod Room
 pub mod Labels
 pub mod Together
 pub mod Said
+pub mod Blended
 pub mod Overflow
 pub mod Proper
 pub mod Steps
 pub mod Histories
 pub mod Sentence
+pub mod Demand3
 pub mod Computing
 pub mod Marked
 pub mod Instances

@@ -17,7 +17,7 @@ use Rattle.layout.specs.Damage.{sized, limited, labelled, named, operated, coun
 use Rattle.pool.specs.Replies.{refusing}
 use Rattle.pool.specs.Empty.{emptyReply, clearReply}
 use Rattle.pool.specs.Load.{held, loadAnswer, loadReply}
-use Rattle.pool.specs.Remove.{removeReply}
+use Rattle.pool.specs.Remove.{removeAnswer, removeReply}
 use Rattle.variables.specs.Found.{doubles, foundIn, filled}
 use Rattle.pool.specs.Fetch.{fetched, fetchReply, fetchBuffer}
 use Rattle.pool.specs.Totals.{counts, totalsReply}
@@ -26,14 +26,13 @@ use Rattle.globe.specs.Orientation.{orientationFrom, orientationReply}
 use Rattle.globe.specs.Radii.{radiiFrom, radiiReply}
 use Rattle.globe.specs.declared.source.Source.the-variants as S
 use Rattle.promises.specs.Calls as C
-use Rattle.promises.specs.Calls.{Call, Answer, asked, library}
-use Rattle.promises.specs.Demands.{NeverBlended}
+use Rattle.promises.specs.Calls.{Call, Answer, asked}
 
 -- what a call answers where these texts are held
 unfoldable pub says : Call → Pool → Answer
 says C.makeEmpty s = C.replied Done
 says (C.load label bytes) s = C.replied (loadAnswer label bytes s)
-says (C.remove label) s = C.replied (if held label s then Done else refusing NotHeld)
+says (C.remove label) s = C.replied (removeAnswer label s)
 says C.clear s = C.replied Done
 says (C.fetch name buffer) s = C.fetched (fetched (foundIn name (length buffer) s)) (filled (foundIn name (length buffer) s) (doubles name s) buffer)
 says C.totals s = C.counted (counts s)
@@ -63,12 +62,3 @@ asked-says (C.orientation S.Builtin code epoch) m e = refl
 asked-says (C.orientation S.Pool code epoch) m e = rw e
 asked-says (C.radii S.Builtin code) m e = refl
 asked-says (C.radii S.Pool code) m e = rw e
-
-pub never-blended : NeverBlended library
-unfolding asked orientationReply radiiReply
-never-blended =
-    record {
-      tableOrientations = λ m m′ n epoch. refl;
-      tableRadii = λ m m′ n. refl;
-      pools = λ c m m′ e e′ h. asked-says c m e ∙ ap (says c) h ∙ sym (asked-says c m′ e′);
-    }

@@ -3,7 +3,7 @@
 use Prim.Native.Nat.{ℕ}
 use mathlib.Core.Path.{_≡_, refl, sym, ap, _∙_}
 use mathlib.Core.Bool.{Bool, true, false, _&&_}
-use mathlib.Core.Logic.{_⊎_, inl, inr}
+use mathlib.Core.Logic.{inl, inr}
 use mathlib.Core.List.{List, [], _∷_, _++_, append-assoc, append-nil}
 use Rattle.plain.specs.Choice.{if_then_else_}
 use Rattle.text.specs.Statements.{Statement}
@@ -11,7 +11,7 @@ use Rattle.plain.proofs.Tests.{true-false}
 use Rattle.layout.specs.State.{program, flat}
 use Rattle.variables.specs.Variables.{isDirect, has, assigns, any, since, gives, variable}
 use Rattle.variables.proofs.Since.{since-all}
-use Rattle.promises.specs.Sentence.{given, LastDirect, NoDirect, Sentence, onto, forward, Forward}
+use Rattle.promises.specs.Sentence.{given, Said, Sentence, onto, forward, Forward}
 
 -- a statement with the name or without it, direct or appending, before a direct assignment or before none
 cases : (h d b : Bool) (v xs since rest : List ℕ)
@@ -29,9 +29,6 @@ cases false false false v xs since rest = refl
 module _ (name : List ℕ) where
   -- ---- the sentence
 
-  abbrev Said : List Statement → List ℕ → Type 0
-  Said ss xs = LastDirect name ss xs ⊎ NoDirect name ss xs
-
   -- a direct assignment has the name
   direct-gives : (s : Statement) → assigns name s ≡ true → gives name s ≡ s .values
   direct-gives s e = by (has name s) (isDirect (s .operator)) e
@@ -40,7 +37,7 @@ module _ (name : List ℕ) where
       by true d e = refl
       by false d e = true-false (sym e)
 
-  said-behind : (s : Statement) (ss : List Statement) (xs : List ℕ) → any (assigns name) ss ≡ true → Said ss xs → Said (s ∷ ss) xs
+  said-behind : (s : Statement) (ss : List Statement) (xs : List ℕ) → any (assigns name) ss ≡ true → Said name ss xs → Said name (s ∷ ss) xs
   said-behind s ss xs e (inl l) = inl (record {
     before = s ∷ l .before;
     last = l .last;
@@ -52,18 +49,18 @@ module _ (name : List ℕ) where
   })
   said-behind s ss xs e (inr n) = true-false (sym e ∙ n .none)
 
-  said-first : (s : Statement) (ss : List Statement) (b : Bool) → any (assigns name) ss ≡ false → assigns name s ≡ b → Said (s ∷ ss) (gives name s ++ given name ss)
+  said-first : (s : Statement) (ss : List Statement) (b : Bool) → any (assigns name) ss ≡ false → assigns name s ≡ b → Said name (s ∷ ss) (gives name s ++ given name ss)
   unfolding any flat
   said-first s ss true e d =
       inl (record { before = []; last = s; later = ss; order = refl; direct = d; none = e; are = ap (λ (xs : List ℕ). xs ++ given name ss) (direct-gives s d) })
   said-first s ss false e d = inr (record { none = rw d e; are = refl })
 
-  said : (ss : List Statement) → Said ss (given name (since name ss))
+  said : (ss : List Statement) → Said name ss (given name (since name ss))
   unfolding since any flat
   said [] = inr (record { none = refl; are = refl })
   said (s ∷ ss) = by (any (assigns name) ss) refl (said ss)
     where
-      by : (b : Bool) → any (assigns name) ss ≡ b → Said ss (given name (since name ss)) → Said (s ∷ ss) (given name (if b then since name ss else (s ∷ ss)))
+      by : (b : Bool) → any (assigns name) ss ≡ b → Said name ss (given name (since name ss)) → Said name (s ∷ ss) (given name (if b then since name ss else (s ∷ ss)))
       by true e h = said-behind s ss (given name (since name ss)) e h
       by false e h = said-first s ss (assigns name s) e refl
 

@@ -53,31 +53,36 @@ use Rattle.globe.specs.declared.source.Source.{Source}
 use Rattle.globe.specs.declared.source.Source.the-variants as S
 use Rattle.wanted.specs.declared.name.Wanted.the-variants as W
 use Rattle.promises.specs.Calls as C
-use Rattle.promises.specs.Calls.{Call, load, orientation, radii, oriented, measured, query, Build, number, line, count, doubles, totalled, accepted, lent, returned}
+use Rattle.promises.specs.Calls.{Call, Answer, load, orientation, radii, oriented, measured, query, Build, number, line, count, doubles, totalled, accepted, lent, returned}
 
--- ---- demand 1: "every public call has a contract that determines result and lent memory entirely, refusals too"
+-- ---- demand 1: "Every public call has a contract that determines result and lent memory entirely, refusals too."
+
+-- an answer of the call's kind that meets the call's contract
+pub record Meets {A : Type 0} (kind : A → Answer) (Contract : A → Type 0) (answer : Answer) : Type 0 where
+  pub told : A
+  pub is : answer ≡ kind told
+  pub contract : Contract told
 
 -- each call meets its contract: the record that the function of `globe` ensures; and a call that is lent the pool to read only leaves it
 pub record Contracts (b : Build) : Type 0 where
-  pub makeEmpty : (m : List ℕ) (r : Reply) → b .answer C.makeEmpty m ≡ C.replied r → Empties m r (b .memory C.makeEmpty m)
+  pub makeEmpty : (m : List ℕ) → Meets C.replied (λ r. Empties m r (b .memory C.makeEmpty m)) (b .answer C.makeEmpty m)
   pub load :
-      (label : ℕ) (bytes m : List ℕ) (r : Reply) → b .answer (C.load label bytes) m ≡ C.replied r
-      → Loads label bytes m r (b .memory (C.load label bytes) m)
+      (label : ℕ) (bytes m : List ℕ)
+      → Meets C.replied (λ r. Loads label bytes m r (b .memory (C.load label bytes) m)) (b .answer (C.load label bytes) m)
   pub remove :
-      (label : ℕ) (m : List ℕ) (r : Reply) → b .answer (C.remove label) m ≡ C.replied r → Removes label m r (b .memory (C.remove label) m)
-  pub clear : (m : List ℕ) (r : Reply) → b .answer C.clear m ≡ C.replied r → Clears m r (b .memory C.clear m)
+      (label : ℕ) (m : List ℕ) → Meets C.replied (λ r. Removes label m r (b .memory (C.remove label) m)) (b .answer (C.remove label) m)
+  pub clear : (m : List ℕ) → Meets C.replied (λ r. Clears m r (b .memory C.clear m)) (b .answer C.clear m)
   pub fetch :
-      (name m : List ℕ) (buffer after : List Float) (r : Fetched) → b .answer (C.fetch name buffer) m ≡ C.fetched r after
-      → Fetches name m buffer r after
-  pub totals : (m : List ℕ) (r : Counts) → b .answer C.totals m ≡ C.counted r → Totals m r
+      (name m : List ℕ) (buffer : List Float)
+      → Meets {A = Fetched × List Float} (λ r. C.fetched (r .0) (r .1)) (λ r. Fetches name m buffer (r .0) (r .1)) (b .answer (C.fetch name buffer) m)
+  pub totals : (m : List ℕ) → Meets C.counted (Totals m) (b .answer C.totals m)
   pub orientation :
-      (source : Source) (m : List ℕ) (n : ℕ) (epoch : Float) (r : Oriented) → b .answer (C.orientation source n epoch) m ≡ C.oriented r
-      → Orients source m n epoch r
-  pub radii :
-      (source : Source) (m : List ℕ) (n : ℕ) (r : Radii) → b .answer (C.radii source n) m ≡ C.measured r → Measures source m n r
+      (source : Source) (m : List ℕ) (n : ℕ) (epoch : Float)
+      → Meets C.oriented (Orients source m n epoch) (b .answer (C.orientation source n epoch) m)
+  pub radii : (source : Source) (m : List ℕ) (n : ℕ) → Meets C.measured (Measures source m n) (b .answer (C.radii source n) m)
   pub queries : (c : Call) (m : List ℕ) → query c ≡ true → b .memory c m ≡ m
 
--- "that no second answer could satisfy it is itself proved"
+-- "That no second answer could satisfy it is itself proved."
 
 -- one answer at most meets a contract on the answer; of one on the answer and what is left in lent memory, one pair at most
 abbrev pub OneAnswer : {A : Type 0} → (A → Type 0) → Type 0
@@ -105,7 +110,7 @@ pub record Faulty (bytes : List ℕ) (q : Refusal) (n : ℕ) : Type 0 where
   pub from : 1 ≤ n
   pub to : n ≤ length (lines bytes)
 
--- "success is number 0 with line 0, and fetch also tells the count (0 when refused). A refusal returns its number, for 3 to 6 the line (0
+-- "Success is number 0 with line 0, and fetch also tells the count (0 when refused). A refusal returns its number, for 3 to 6 the line (0
 -- for all others), and no values"
 pub record Reports (b : Build) : Type 0 where
   pub success : (c : Call) (m : List ℕ) → accepted (b .answer c m) ≡ true → line (b .answer c m) ≡ 0
@@ -122,18 +127,18 @@ abbrev pub RefusalChangesNothing : Build → Type 0
 RefusalChangesNothing b =
     (c : Call) (m : List ℕ) → accepted (b .answer c m) ≡ false → (b .memory c m ≡ m) × (returned (b .answer c m) ≡ lent c)
 
--- "a successful fetch writes the values from the buffer's start and no further"
+-- "A successful fetch writes the values from the buffer's start and no further."
 abbrev pub FetchWrites : Build → Type 0
 FetchWrites b =
     (name m : List ℕ) (buffer : List Float) → accepted (b .answer (C.fetch name buffer) m) ≡ true
     → (count (b .answer (C.fetch name buffer) m) ≡ length (F.doubles name (decode m)))
     × (returned (b .answer (C.fetch name buffer) m) ≡ F.doubles name (decode m) ++ drop (length (F.doubles name (decode m))) buffer)
 
--- "no call damages an undamaged pool"
+-- no call damages an undamaged pool
 abbrev pub NoDamage : Build → Type 0
 NoDamage b = (c : Call) (m : List ℕ) → sound m ≡ true → sound (b .memory c m) ≡ true
 
--- ---- demand 2: "a text is accepted exactly when its label is not held, the rules admit it and the undamaged pool has room"
+-- ---- demand 2: "A text is accepted exactly when its label is not held, the rules admit it and the undamaged pool has room."
 
 pub record Admissible (label : ℕ) (bytes m : List ℕ) : Type 0 where
   pub undamaged : sound m ≡ true
@@ -143,7 +148,7 @@ pub record Admissible (label : ℕ) (bytes m : List ℕ) : Type 0 where
   pub admitted : readText bytes ≡ fine events
   pub roomy : room (with (decode m) (textOf label bytes)) ≡ true
 
--- "an orientation is given exactly when the epoch is in range, the code is one of document 01's and the chosen source has the elements;
+-- "An orientation is given exactly when the epoch is in range, the code is one of document 01's and the chosen source has the elements;
 -- it equals document 01's evaluation bit for bit": of the texts of a pool
 pub record HasElements (s : Pool) (n : ℕ) (epoch : Float) (o : Orientation) : Type 0 where
   pub reach : inReach epoch ≡ true
@@ -164,7 +169,7 @@ pub record HasRow (n : ℕ) (epoch : Float) (o : Orientation) : Type 0 where
   pub listed : rowOf n ≡ Held row
   pub evaluation : o ≡ rowEvaluated n row epoch
 
--- "radii are the source's three values": of the texts of a pool
+-- "Radii are the source's three values": of the texts of a pool
 pub record HasRadii (s : Pool) (n : ℕ) (x : Axes) : Type 0 where
   pub system : ℕ
   pub legal : systemOf n ≡ Of system
@@ -204,10 +209,35 @@ pub record NoOverflow (b : Build) : Type 0 where
       → b .answer (orientation S.Builtin n epoch) m ≡ oriented (O.Given o) → rowOf n ≡ Held row
       → NeverOverflows row epoch (neptunes n neptuneAngle) (neptunes n neptuneRA) (neptunes n neptuneDEC) (neptunes n neptunePM)
 
--- "the two are never blended"; "fifteen is not checked where the built-in source is named": a table's answer does not look at the memory, and a
--- pool's only at its texts
+-- "The two are never blended, since a pole of one report with a meridian of another is an orientation nobody published."
+
+-- all that is wanted of a body is there in the texts of a pool, and the orientation is that of these elements
+pub record OfPool (s : Pool) (n : ℕ) (epoch : Float) (o : Orientation) : Type 0 where
+  pub system : ℕ
+  pub legal : systemOf n ≡ Of system
+  pub whole : complete s n system ≡ true
+  pub evaluation :
+      o ≡ evaluated (elements s n) epoch (angles s n system) (list s n W.NutPrecRa) (list s n W.NutPrecDec) (list s n W.NutPrecPm)
+
+-- the table has a row for it, and the orientation is that of the row
+pub record OfTable (n : ℕ) (epoch : Float) (o : Orientation) : Type 0 where
+  pub row : Elements
+  pub listed : rowOf n ≡ Held row
+  pub evaluation : o ≡ rowEvaluated n row epoch
+
+-- what a pool gives is all of its texts, and what the table gives is all of the table, whatever memory is lent
 pub record NeverBlended (b : Build) : Type 0 where
+  pub poolOrientations :
+      (m : List ℕ) (n : ℕ) (epoch : Float) (o : Orientation)
+      → b .answer (orientation S.Pool n epoch) m ≡ oriented (O.Given o) → OfPool (decode m) n epoch o
   pub tableOrientations :
+      (m : List ℕ) (n : ℕ) (epoch : Float) (o : Orientation)
+      → b .answer (orientation S.Builtin n epoch) m ≡ oriented (O.Given o) → OfTable n epoch o
+  pub poolRadii :
+      (m : List ℕ) (n : ℕ) (x : Axes)
+      → b .answer (radii S.Pool n) m ≡ measured (A.Given x) → list (decode m) n W.Radii ≡ x .a ∷ x .b ∷ x .c ∷ []
+  pub tableRadii : (m : List ℕ) (n : ℕ) (x : Axes) → b .answer (radii S.Builtin n) m ≡ measured (A.Given x) → sizeOf n ≡ Known x
+  pub tables :
       (m m′ : List ℕ) (n : ℕ) (epoch : Float) → b .answer (orientation S.Builtin n epoch) m ≡ b .answer (orientation S.Builtin n epoch) m′
-  pub tableRadii : (m m′ : List ℕ) (n : ℕ) → b .answer (radii S.Builtin n) m ≡ b .answer (radii S.Builtin n) m′
+  pub sizes : (m m′ : List ℕ) (n : ℕ) → b .answer (radii S.Builtin n) m ≡ b .answer (radii S.Builtin n) m′
   pub pools : (c : Call) (m m′ : List ℕ) → sound m ≡ true → sound m′ ≡ true → decode m ≡ decode m′ → b .answer c m ≡ b .answer c m′

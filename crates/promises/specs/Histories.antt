@@ -1,5 +1,5 @@
--- Demand 3: "After any sequence of calls every answer equals that of an empty pool into which only the texts still held are loaded, in
--- the order of their latest accepted load." Definitions only.
+-- "After any sequence of calls every answer equals that of an empty pool into which only the texts still held are loaded, in the order of
+-- their latest accepted load." Definitions only.
 use Prim.Native.Nat.{ℕ}
 use mathlib.Core.Path.{_≡_}
 use mathlib.Core.Bool.{true}
@@ -59,9 +59,9 @@ pub record Fresh (b : Build) (m : List ℕ) : Type 0 where
   pub size : length earlier ≡ WORDS
   pub emptied : m ≡ b .memory makeEmpty earlier
 
--- the demand: the two empty pools may differ in their unused words
-abbrev pub Demand3 : Build → Type 0
-Demand3 b =
+-- the two empty pools may differ in their unused words
+abbrev pub Replay : Build → Type 0
+Replay b =
     (m m′ : List ℕ) → Fresh b m → Fresh b m′ → (history : List Call) (c : Call)
     → b .answer c (after b history m) ≡ b .answer c (after b (map loading (still b history m [])) m′)
 
@@ -79,7 +79,7 @@ AllAccepted b (c ∷ cs) m = (accepted (b .answer c m) ≡ true) × AllAccepted 
 abbrev pub Replayed : Build → Type 0
 Replayed b = (m m′ : List ℕ) → Fresh b m → Fresh b m′ → (history : List Call) → AllAccepted b (map loading (still b history m [])) m′
 
--- ---- "a variable there is the values of the last direct assignment among those texts .."; "totals being the counts summed over those texts"
+-- ---- what fetch and totals answer; "totals being the counts summed over those texts"
 
 abbrev pub text : Loaded → Text
 text k = textOf (k .label) (k .bytes)

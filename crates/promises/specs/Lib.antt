@@ -4,5 +4,7 @@ pub mod Marked
 pub mod Calls
 pub mod Histories
 pub mod Demands
+pub mod Order
 pub mod Sentence
+pub mod Demand3
 pub mod Useless

@@ -25,7 +25,7 @@ use Rattle.layout.specs.Damage.{sound}
 use Rattle.pool.specs.Replies.{replyNumber, replyLine, done}
 use Rattle.variables.specs.Variables.{variable}
 use Rattle.pool.specs.Load.{textOf, with, loadAnswer}
-use Rattle.pool.specs.Remove.{without}
+use Rattle.pool.specs.Remove.{without, removeAnswer}
 use Rattle.globe.specs.Orientation.{orientationFrom, orientationReply}
 use Rattle.globe.specs.Radii.{radiiReply}
 use Rattle.globe.specs.declared.source.Source.the-variants as S
@@ -133,9 +133,17 @@ appending =
     && x-is (one ∷ two ∷ []) (loaded 8 (inData "X += 2") (loaded 7 (inData "X = 1") []))
     && x-is (one ∷ []) (loaded 8 (inData "X = 1") (loaded 7 (inData "X += 2") []))
 
--- 7. Label 7 `X = 1`, label 8 `X = 2`, remove 8: X is 1.
+-- 7. Label 7 `X = 1`, label 8 `X = 2`, remove 8: X is 1. All three are accepted, and X is 2 before the removal.
+abbrev pub seven : Pool
+seven = loaded 7 (inData "X = 1") []
+
+abbrev pub eight : Pool
+eight = loaded 8 (inData "X = 2") seven
+
 abbrev pub undone : Bool
-undone = x-is (one ∷ []) (without 8 (loaded 8 (inData "X = 2") (loaded 7 (inData "X = 1") [])))
+undone =
+    done (loadAnswer 7 (inData "X = 1") []) && done (loadAnswer 8 (inData "X = 2") seven) && x-is (two ∷ []) eight
+    && done (removeAnswer 8 eight) && x-is (one ∷ []) (without 8 eight)
 
 -- 8. Wrap of −90 is 270; of −0, 360 and −1E−20 is +0.
 abbrev pub wraps : Bool

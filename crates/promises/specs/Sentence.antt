@@ -1,5 +1,4 @@
--- "A variable there is the values of the last direct assignment among those texts followed by all later appendings, or all appendings."
--- Definitions only.
+-- "A variable is its last direct assignment followed by all later appendings, or all appendings." Definitions only.
 use Prim.Native.Nat.{ℕ}
 use mathlib.Core.Path.{_≡_}
 use mathlib.Core.Bool.{true, false}
@@ -29,9 +28,13 @@ pub record NoDirect (name : List ℕ) (ss : List Statement) (values : List ℕ) 
   pub none : any (assigns name) ss ≡ false
   pub are : values ≡ given name ss
 
--- the sentence, of the statements of the held texts in order
+-- the sentence: these are the values of the name, of statements in order
+abbrev pub Said : (name : List ℕ) → List Statement → (values : List ℕ) → Type 0
+Said name ss values = LastDirect name ss values ⊎ NoDirect name ss values
+
+-- of the statements of the held texts in order
 abbrev pub Sentence : Type 0
-Sentence = (name : List ℕ) (s : Pool) → LastDirect name (program s) (variable name s) ⊎ NoDirect name (program s) (variable name s)
+Sentence = (name : List ℕ) (s : Pool) → Said name (program s) (variable name s)
 
 -- ---- the same, statement by statement from the first on
 

@@ -1,18 +1,25 @@
 -- "Useless builds that have to be caught": each kind as a definition, and the claim that none meets the demand named for it. Definitions
 -- only.
-use Prim.Native.Nat.{ℕ, _≤_}
+use Prim.Native.Nat.{ℕ, _≤_, _<_}
 use mathlib.Core.Path.{_≡_}
-use mathlib.Core.Bool.{true, false}
+use mathlib.Core.Bool.{Bool, true, false}
 use mathlib.Core.List.{List}
 use lib.Ieee.{Float}
 use lib.ListN.{length}
+use Rattle.plain.specs.Choice.{if_then_else_}
 use Rattle.refusal.specs.declared.Refusal.{Refusal}
+use Rattle.rotation.specs.Evaluation.{evaluated}
+use Rattle.rotation.specs.Table.{rowOf}
+use Rattle.rotation.specs.declared.elements.Polynomial.{Polynomial}
+use Rattle.rotation.specs.declared.elements.Elements.{Elements}
 use Rattle.rotation.specs.declared.matrix.Orientation.{Orientation}
 use Rattle.rotation.specs.declared.matrix.Oriented.the-variants as O
 use Rattle.rotation.specs.declared.table.Axes.{Axes}
 use Rattle.rotation.specs.declared.table.Radii.the-variants as A
+use Rattle.rotation.specs.declared.table.Row.the-variants.{Held}
 use Rattle.text.specs.Text.{refused, readText}
 use Rattle.text.specs.declared.faults.Fault.{Fault}
+use Rattle.layout.specs.State.{Pool}
 use Rattle.layout.specs.Memory.{decode}
 use Rattle.layout.specs.Damage.{sound}
 use Rattle.layout.specs.Limits.{LONGEST}
@@ -20,10 +27,14 @@ use Rattle.pool.specs.Load.{held}
 use Rattle.pool.specs.Totals.{counts}
 use Rattle.pool.specs.declared.reply.Counts.{Counts}
 use Rattle.pool.specs.declared.reply.Reply.the-variants.{Refused}
+use Rattle.wanted.specs.Elements.{there, allThere, elements, angles, list}
+use Rattle.wanted.specs.declared.name.Wanted.the-variants as W
 use Rattle.globe.specs.declared.source.Source.{Source}
+use Rattle.globe.specs.declared.source.Source.the-variants as S
 use Rattle.promises.specs.Calls.{Call, load, remove, totals, orientation, radii, replied, counted, oriented, measured, Build, accepted}
-use Rattle.promises.specs.Demands.{Contracts, Demand2}
-use Rattle.promises.specs.Histories.{Loaded, loading, after, Fresh, texts, OfHeldTexts}
+use Rattle.promises.specs.Demands.{Contracts, Demand2, NeverBlended}
+use Rattle.promises.specs.Histories.{Loaded, loading, after, Fresh, texts}
+use Rattle.promises.specs.Demand3.{Demand3}
 
 -- ---- demand 2
 
@@ -34,29 +45,71 @@ RefusesEveryText b = (label : ℕ) (bytes m : List ℕ) → accepted (b .answer 
 abbrev pub RefusesEveryEpoch : Build → Type 0
 RefusesEveryEpoch b = (source : Source) (n : ℕ) (epoch : Float) (m : List ℕ) → accepted (b .answer (orientation source n epoch) m) ≡ false
 
--- "one with a constant orientation"
+-- "one with a constant orientation": one for all, or for each source and body one at every epoch, so that the shell never turns
 pub record ConstantOrientation (b : Build) : Type 0 where
-  pub one : Orientation
+  pub single : Orientation
   pub always :
       (source : Source) (n : ℕ) (epoch : Float) (m : List ℕ) (o : Orientation)
-      → b .answer (orientation source n epoch) m ≡ oriented (O.Given o) → o ≡ one
+      → b .answer (orientation source n epoch) m ≡ oriented (O.Given o) → o ≡ single
+
+abbrev pub NeverTurns : Build → Type 0
+NeverTurns b =
+    (source : Source) (n : ℕ) (epoch epoch′ : Float) (m : List ℕ) (o o′ : Orientation)
+    → b .answer (orientation source n epoch) m ≡ oriented (O.Given o) → b .answer (orientation source n epoch′) m ≡ oriented (O.Given o′) → o ≡ o′
 
 -- "one with constant radii"
 pub record ConstantRadii (b : Build) : Type 0 where
-  pub one : Axes
-  pub always : (source : Source) (n : ℕ) (m : List ℕ) (x : Axes) → b .answer (radii source n) m ≡ measured (A.Given x) → x ≡ one
+  pub single : Axes
+  pub always : (source : Source) (n : ℕ) (m : List ℕ) (x : Axes) → b .answer (radii source n) m ≡ measured (A.Given x) → x ≡ single
+
+-- one that refuses every load where a text is held
+abbrev pub RefusesEverySecond : Build → Type 0
+RefusesEverySecond b = (label : ℕ) (bytes m : List ℕ) → 0 < length (decode m) → accepted (b .answer (load label bytes) m) ≡ false
+
+-- ---- "never blended"
+
+-- what a pool lacks of a body's elements, from the table's row
+abbrev pub fromRow : Bool → (polynomial row : Polynomial) → Polynomial
+fromRow there p row = if there then p else row
+
+abbrev pub blended : Pool → ℕ → (row : Elements) → Elements
+blended s n row =
+    record {
+      ra = fromRow (there s n W.PoleRa) (elements s n .ra) (row .ra);
+      dec = fromRow (there s n W.PoleDec) (elements s n .dec) (row .dec);
+      pm = fromRow (there s n W.Pm) (elements s n .pm) (row .pm);
+    }
+
+-- a pool that lacks some of a body's elements answers with the table's for them
+pub record Blends (b : Build) : Type 0 where
+  pub m : List ℕ
+  pub n : ℕ
+  pub epoch : Float
+  pub lacking : allThere (decode m) n ≡ false
+  pub row : Elements
+  pub listed : rowOf n ≡ Held row
+  pub system : ℕ
+  pub given : Orientation
+  pub evaluation :
+      given ≡ evaluated (blended (decode m) n row) epoch (angles (decode m) n system)
+      (list (decode m) n W.NutPrecRa) (list (decode m) n W.NutPrecDec) (list (decode m) n W.NutPrecPm)
+  pub gives : b .answer (orientation S.Pool n epoch) m ≡ oriented (O.Given given)
 
 -- ---- demand 3
 
--- "a load that stores nothing": it says yes, and the memory is as before
+-- whatever is asked next, the two memories answer alike
+abbrev pub Alike : Build → (m m′ : List ℕ) → Type 0
+Alike b m m′ = (c : Call) → b .answer c m ≡ b .answer c m′
+
+-- "a load that stores nothing": it says yes, and every answer is as before
 pub record StoresNothing (b : Build) : Type 0 where
   pub m : List ℕ
   pub empty : Fresh b m
   pub text : Loaded
   pub yes : accepted (b .answer (loading text) m) ≡ true
-  pub nothing : b .memory (loading text) m ≡ m
+  pub nothing : Alike b (b .memory (loading text) m) m
 
--- "a pool that heeds the first load only"
+-- "a pool that heeds the first load only": a second one is accepted, and every answer is as before it
 pub record HeedsFirstOnly (b : Build) : Type 0 where
   pub m : List ℕ
   pub empty : Fresh b m
@@ -64,16 +117,16 @@ pub record HeedsFirstOnly (b : Build) : Type 0 where
   pub second : Loaded
   pub yes : accepted (b .answer (loading first) m) ≡ true
   pub again : accepted (b .answer (loading second) (b .memory (loading first) m)) ≡ true
-  pub nothing : b .memory (loading second) (b .memory (loading first) m) ≡ b .memory (loading first) m
+  pub nothing : Alike b (b .memory (loading second) (b .memory (loading first) m)) (b .memory (loading first) m)
 
--- "a removal that only says yes"
+-- "a removal that only says yes": every answer is as before it
 pub record OnlySaysYes (b : Build) : Type 0 where
   pub m : List ℕ
   pub empty : Fresh b m
   pub text : Loaded
   pub held : accepted (b .answer (loading text) m) ≡ true
   pub yes : accepted (b .answer (remove (text .label)) (b .memory (loading text) m)) ≡ true
-  pub nothing : b .memory (remove (text .label)) (b .memory (loading text) m) ≡ b .memory (loading text) m
+  pub nothing : Alike b (b .memory (remove (text .label)) (b .memory (loading text) m)) (b .memory (loading text) m)
 
 -- "totals not those of the held texts"
 pub record OtherTotals (b : Build) : Type 0 where
@@ -109,9 +162,12 @@ pub record Caught : Type 0 where
   pub refusesEveryText : (b : Build) → Demand2 b → RefusesEveryText b → ⊥
   pub refusesEveryEpoch : (b : Build) → Demand2 b → RefusesEveryEpoch b → ⊥
   pub constantOrientation : (b : Build) → Demand2 b → ConstantOrientation b → ⊥
+  pub neverTurns : (b : Build) → Demand2 b → NeverTurns b → ⊥
   pub constantRadii : (b : Build) → Demand2 b → ConstantRadii b → ⊥
-  pub storesNothing : (b : Build) → OfHeldTexts b → StoresNothing b → ⊥
-  pub heedsFirstOnly : (b : Build) → OfHeldTexts b → HeedsFirstOnly b → ⊥
-  pub onlySaysYes : (b : Build) → OfHeldTexts b → OnlySaysYes b → ⊥
-  pub otherTotals : (b : Build) → OfHeldTexts b → OtherTotals b → ⊥
+  pub refusesEverySecond : (b : Build) → Demand2 b → RefusesEverySecond b → ⊥
+  pub blends : (b : Build) → NeverBlended b → Blends b → ⊥
+  pub storesNothing : (b : Build) → Demand3 b → StoresNothing b → ⊥
+  pub heedsFirstOnly : (b : Build) → Demand3 b → HeedsFirstOnly b → ⊥
+  pub onlySaysYes : (b : Build) → Demand3 b → OnlySaysYes b → ⊥
+  pub otherTotals : (b : Build) → Demand3 b → OtherTotals b → ⊥
   pub inventedLine : (b : Build) → Contracts b → InventedLine b → ⊥

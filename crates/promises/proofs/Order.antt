@@ -1,0 +1,107 @@
+-- Each refusal is given in its turn: a call asks its questions in document 01's order, so that the first condition that holds decides.
+-- Assumes nothing.
+use Prim.Native.Nat.{ℕ, _≤_, _<_}
+use mathlib.Core.Path.{_≡_, refl, sym, ap, subst}
+use mathlib.Core.Bool.{true, false, true≢false}
+use mathlib.Core.List.{List}
+use borrow.Author.Tests.{lt-ltb, le-ltb, lt-leb}
+use lib.Ieee.{Float, binary64, ofBits}
+use lib.ListN.{length, length-map}
+use Rattle.refusal.specs.Numbers.{numberOf}
+use Rattle.refusal.specs.declared.Refusal.the-variants as Q
+use Rattle.rotation.specs.Epochs.{inReach}
+use Rattle.rotation.specs.Codes.{systemOf}
+use Rattle.rotation.specs.Table.{rowOf}
+use Rattle.rotation.specs.Builtin.{bySystem, builtinOrientation, builtinRadii}
+use Rattle.rotation.specs.declared.code.System.{System}
+use Rattle.rotation.specs.declared.code.System.the-variants.{Of, Nowhere}
+use Rattle.rotation.specs.declared.table.Row.the-variants.{NoRow}
+use Rattle.layout.specs.Limits.{LONGEST}
+use Rattle.layout.specs.Memory.{decode}
+use Rattle.layout.specs.Damage.{sound}
+use Rattle.variables.specs.Variables.{variable, present}
+use Rattle.variables.specs.Found.{doubles, foundIn}
+use Rattle.pool.specs.Empty.{emptyReply, clearReply}
+use Rattle.pool.specs.Load.{loadAnswer, loadReply}
+use Rattle.pool.specs.Remove.{removeReply}
+use Rattle.pool.specs.Fetch.{fetchReply}
+use Rattle.pool.specs.Totals.{totalsReply}
+use Rattle.globe.specs.Orientation.{orientationFrom, orientationReply}
+use Rattle.globe.specs.Radii.{radiiFrom, radiiReply}
+use Rattle.globe.specs.declared.source.Source.the-variants as S
+use Rattle.promises.specs.Calls as C
+use Rattle.promises.specs.Calls.{Call, number, asked, library}
+use Rattle.promises.specs.Order.{Refuses, usesPool, LoadOrder, FetchOrder, OrientationOrder, RadiiOrder, InOrder}
+
+damaged : (c : Call) (m : List ℕ) → usesPool c ≡ true → sound m ≡ false → Refuses library c m Q.DamagedPool
+unfolding asked loadReply removeReply clearReply fetchReply totalsReply orientationReply radiiReply
+damaged C.makeEmpty m u e = absurd (true≢false (sym u))
+damaged (C.load label bytes) m u e = rw e
+damaged (C.remove label) m u e = rw e
+damaged C.clear m u e = rw e
+damaged (C.fetch name buffer) m u e = rw e
+damaged C.totals m u e = rw e
+damaged (C.orientation S.Pool code epoch) m u e = rw e
+damaged (C.orientation S.Builtin code epoch) m u e = absurd (true≢false (sym u))
+damaged (C.radii S.Pool code) m u e = rw e
+damaged (C.radii S.Builtin code) m u e = absurd (true≢false (sym u))
+
+loads : (label : ℕ) (bytes m : List ℕ) → sound m ≡ true → LoadOrder library label bytes m
+unfolding asked loadReply loadAnswer
+loads label bytes m e =
+    record {
+      labelHeld = λ h. simp (e, h);
+      tooLong = λ h l. simp (e, h, lt-ltb LONGEST (length bytes) l);
+      faulty = λ fault n place h l r. (simp (e, h, le-ltb LONGEST (length bytes) l, r), simp (e, h, le-ltb LONGEST (length bytes) l, r));
+      noRoom = λ es h l r f. simp (e, h, le-ltb LONGEST (length bytes) l, r, f);
+    }
+
+fetches : (name : List ℕ) (buffer : List Float) (m : List ℕ) → sound m ≡ true → FetchOrder library name buffer m
+unfolding asked fetchReply foundIn
+fetches name buffer m e =
+    record {
+      noVariable = λ p. simp (e, p);
+      shortBuffer = λ p l.
+          let few : length buffer < length (variable name (decode m)) =
+          subst (λ (k : ℕ). length buffer < k) (length-map (variable name (decode m)) (ofBits binary64)) l in
+          simp (e, p, lt-leb (length (variable name (decode m))) (length buffer) few);
+    }
+
+orientations : (n : ℕ) (epoch : Float) (m : List ℕ) → sound m ≡ true → OrientationOrder library n epoch m
+unfolding asked orientationReply orientationFrom
+orientations n epoch m e =
+    record {
+      epochs = λ r. simp (e, r);
+      noCode = λ r s. simp (e, r, s);
+      noBody = λ k r s b. simp (e, r, s, b);
+      incomplete = λ k r s b c. simp (e, r, s, b, c);
+      wrongCount = λ k r s b c w. simp (e, r, s, b, c, w);
+    }
+
+radii : (n : ℕ) (m : List ℕ) → sound m ≡ true → RadiiOrder library n m
+unfolding asked radiiReply radiiFrom
+radii n m e = record { noCode = λ s. simp (e, s); noBody = λ k s t. simp (e, s, t); wrongCount = λ k s t c. simp (e, s, t, c) }
+
+table-rows : (n : ℕ) (epoch : Float) (m : List ℕ) → inReach epoch ≡ true → rowOf n ≡ NoRow → Refuses library (C.orientation S.Builtin n epoch) m Q.UnknownBody
+unfolding asked orientationReply builtinOrientation
+table-rows n epoch m r h = rw r (by (systemOf n))
+  where
+    by : (s : System) → number (C.oriented (bySystem n epoch s)) ≡ numberOf Q.UnknownBody
+    by (Of k) = rw h
+    by Nowhere = refl
+
+pub in-order : InOrder library
+unfolding asked emptyReply removeReply orientationReply builtinOrientation radiiReply builtinRadii
+in-order =
+    record {
+      damaged = damaged;
+      otherSize = λ m z. rw z;
+      loads = loads;
+      notHeld = λ label m e h. simp (e, h);
+      fetches = fetches;
+      orientations = orientations;
+      radii = radii;
+      tableEpochs = λ n epoch m r. rw r;
+      tableRows = table-rows;
+      tableSizes = λ n m h. rw h;
+    }

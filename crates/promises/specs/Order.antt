@@ -1,0 +1,102 @@
+-- "Order: 15 first; then by call 1, 2, the first faulty line (in it 3, then 4, then whichever of 5 and 6 starts at the earlier byte), 7; 8;
+-- 13, 14; 9, 10, 11, 12. Fifteen is not checked where the built-in source is named." Each refusal is given where its condition holds and
+-- none does that is asked before it. Definitions only.
+use Prim.Native.Nat.{ℕ, _≤_, _<_}
+use mathlib.Core.Path.{_≡_}
+use mathlib.Core.Bool.{Bool, true, false}
+use mathlib.Core.List.{List}
+use lib.Dec.{eqb}
+use lib.Ieee.{Float}
+use lib.ListN.{length}
+use Rattle.refusal.specs.Numbers.{numberOf}
+use Rattle.refusal.specs.declared.Refusal.{Refusal}
+use Rattle.refusal.specs.declared.Refusal.the-variants as Q
+use Rattle.rotation.specs.Epochs.{inReach}
+use Rattle.rotation.specs.Codes.{systemOf}
+use Rattle.rotation.specs.Table.{rowOf, sizeOf}
+use Rattle.rotation.specs.declared.code.System.the-variants.{Of, Nowhere}
+use Rattle.rotation.specs.declared.table.Row.the-variants.{NoRow}
+use Rattle.rotation.specs.declared.table.Size.the-variants.{NoSize}
+use Rattle.text.specs.Faults.{refusalOf}
+use Rattle.text.specs.Statements.{Event}
+use Rattle.text.specs.Text.{fine, refused, readText}
+use Rattle.text.specs.declared.faults.Fault.{Fault}
+use Rattle.layout.specs.Limits.{room, LONGEST}
+use Rattle.layout.specs.Memory.{decode}
+use Rattle.layout.specs.Damage.{sized, sound}
+use Rattle.variables.specs.Variables.{present}
+use Rattle.variables.specs.Found.{doubles}
+use Rattle.pool.specs.Load.{held, textOf, with}
+use Rattle.wanted.specs.Elements.{there, noneThere, complete, wellCounted, list}
+use Rattle.wanted.specs.declared.name.Wanted.the-variants as W
+use Rattle.globe.specs.declared.source.Source.the-variants as S
+use Rattle.promises.specs.Calls as C
+use Rattle.promises.specs.Calls.{Call, Build, number, line}
+
+-- the call is refused with this refusal's number
+abbrev pub Refuses : Build → Call → (m : List ℕ) → Refusal → Type 0
+Refuses b c m q = number (b .answer c m) ≡ numberOf q
+
+-- "every call that uses the pool; make empty for the size alone"
+abbrev pub usesPool : Call → Bool
+usesPool C.makeEmpty = false
+usesPool (C.load label bytes) = true
+usesPool (C.remove label) = true
+usesPool C.clear = true
+usesPool (C.fetch name buffer) = true
+usesPool C.totals = true
+usesPool (C.orientation S.Pool code epoch) = true
+usesPool (C.orientation S.Builtin code epoch) = false
+usesPool (C.radii S.Pool code) = true
+usesPool (C.radii S.Builtin code) = false
+
+-- ---- of an undamaged pool
+
+pub record LoadOrder (b : Build) (label : ℕ) (bytes m : List ℕ) : Type 0 where
+  pub labelHeld : held label (decode m) ≡ true → Refuses b (C.load label bytes) m Q.LabelHeld
+  pub tooLong : held label (decode m) ≡ false → LONGEST < length bytes → Refuses b (C.load label bytes) m Q.TextTooLong
+  pub faulty :
+      (fault : Fault) (n place : ℕ) → held label (decode m) ≡ false → length bytes ≤ LONGEST → readText bytes ≡ refused fault n place
+      → Refuses b (C.load label bytes) m (refusalOf fault) × (line (b .answer (C.load label bytes) m) ≡ n)
+  pub noRoom :
+      (es : List Event) → held label (decode m) ≡ false → length bytes ≤ LONGEST → readText bytes ≡ fine es
+      → room (with (decode m) (textOf label bytes)) ≡ false → Refuses b (C.load label bytes) m Q.NoRoom
+
+pub record FetchOrder (b : Build) (name : List ℕ) (buffer : List Float) (m : List ℕ) : Type 0 where
+  pub noVariable : present name (decode m) ≡ false → Refuses b (C.fetch name buffer) m Q.NoVariable
+  pub shortBuffer :
+      present name (decode m) ≡ true → length buffer < length (doubles name (decode m)) → Refuses b (C.fetch name buffer) m Q.ShortBuffer
+
+pub record OrientationOrder (b : Build) (n : ℕ) (epoch : Float) (m : List ℕ) : Type 0 where
+  pub epochs : inReach epoch ≡ false → Refuses b (C.orientation S.Pool n epoch) m Q.Epoch
+  pub noCode : inReach epoch ≡ true → systemOf n ≡ Nowhere → Refuses b (C.orientation S.Pool n epoch) m Q.UnknownBody
+  pub noBody :
+      (k : ℕ) → inReach epoch ≡ true → systemOf n ≡ Of k → noneThere (decode m) n ≡ true → Refuses b (C.orientation S.Pool n epoch) m Q.UnknownBody
+  pub incomplete :
+      (k : ℕ) → inReach epoch ≡ true → systemOf n ≡ Of k → noneThere (decode m) n ≡ false → complete (decode m) n k ≡ false
+      → Refuses b (C.orientation S.Pool n epoch) m Q.Incomplete
+  pub wrongCount :
+      (k : ℕ) → inReach epoch ≡ true → systemOf n ≡ Of k → noneThere (decode m) n ≡ false → complete (decode m) n k ≡ true
+      → wellCounted (decode m) n k ≡ false → Refuses b (C.orientation S.Pool n epoch) m Q.WrongCount
+
+pub record RadiiOrder (b : Build) (n : ℕ) (m : List ℕ) : Type 0 where
+  pub noCode : systemOf n ≡ Nowhere → Refuses b (C.radii S.Pool n) m Q.UnknownBody
+  pub noBody : (k : ℕ) → systemOf n ≡ Of k → there (decode m) n W.Radii ≡ false → Refuses b (C.radii S.Pool n) m Q.UnknownBody
+  pub wrongCount :
+      (k : ℕ) → systemOf n ≡ Of k → there (decode m) n W.Radii ≡ true → eqb (length (list (decode m) n W.Radii)) 3 ≡ false
+      → Refuses b (C.radii S.Pool n) m Q.WrongCount
+
+-- ---- the claim
+
+pub record InOrder (b : Build) : Type 0 where
+  pub damaged : (c : Call) (m : List ℕ) → usesPool c ≡ true → sound m ≡ false → Refuses b c m Q.DamagedPool
+  pub otherSize : (m : List ℕ) → sized m ≡ false → Refuses b C.makeEmpty m Q.DamagedPool
+  pub loads : (label : ℕ) (bytes m : List ℕ) → sound m ≡ true → LoadOrder b label bytes m
+  pub notHeld : (label : ℕ) (m : List ℕ) → sound m ≡ true → held label (decode m) ≡ false → Refuses b (C.remove label) m Q.NotHeld
+  pub fetches : (name : List ℕ) (buffer : List Float) (m : List ℕ) → sound m ≡ true → FetchOrder b name buffer m
+  pub orientations : (n : ℕ) (epoch : Float) (m : List ℕ) → sound m ≡ true → OrientationOrder b n epoch m
+  pub radii : (n : ℕ) (m : List ℕ) → sound m ≡ true → RadiiOrder b n m
+  pub tableEpochs : (n : ℕ) (epoch : Float) (m : List ℕ) → inReach epoch ≡ false → Refuses b (C.orientation S.Builtin n epoch) m Q.Epoch
+  pub tableRows :
+      (n : ℕ) (epoch : Float) (m : List ℕ) → inReach epoch ≡ true → rowOf n ≡ NoRow → Refuses b (C.orientation S.Builtin n epoch) m Q.UnknownBody
+  pub tableSizes : (n : ℕ) (m : List ℕ) → sizeOf n ≡ NoSize → Refuses b (C.radii S.Builtin n) m Q.UnknownBody
