@@ -2,6 +2,7 @@
 pub mod Choice
 pub mod Doubles
 pub mod Bytes
+pub mod Ascii
 pub mod Runs
 pub mod Sizes
 pub mod Lists

@@ -6,6 +6,7 @@ use mathlib.Core.Bool.{true≢false}
 use mathlib.Core.List.{List, [], _∷_}
 use lib.Ieee.{Float, nan, isNan}
 use lib.ListN.{getD, replicate}
+use Rattle.plain.specs.Ascii.{ascii}
 use Rattle.refusal.specs.declared.Refusal.the-variants as Q
 use Rattle.rotation.specs.Table.{sizeOf}
 use Rattle.rotation.specs.Builtin.{builtinRadii}
@@ -32,7 +33,6 @@ use Rattle.pool.specs.declared.reply.Counts.the-variants as C
 use Rattle.globe.specs.Orientation.{Orients, orientationReply}
 use Rattle.globe.specs.Radii.{Measures, radiiReply}
 use Rattle.globe.specs.declared.source.Source.the-variants as S
-use Rattle.promises.specs.Ascii.{ascii}
 use Rattle.promises.specs.Marked.{nought}
 use Rattle.promises.proofs.Computing.{loading, evaluating}
 use Rattle.promises.proofs.Instances.{noughts, noughts-sound, noughts-empty}

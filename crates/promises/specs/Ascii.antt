@@ -1,13 +1,8 @@
--- Bytes as quoted text. Definitions only.
+-- Texts of the marked cases, written as quoted lines. Definitions only.
 use Prim.Native.Nat.{ℕ}
-use Prim.Native.Char.{code}
 use Prim.Native.String.{String}
-use mathlib.Core.List.{List, [], _∷_, _++_}
-
--- the ASCII numbers of a text's characters
-abbrev pub ascii : String → List ℕ
-ascii String.[] = []
-ascii (String._∷_ c s) = code c ∷ ascii s
+use mathlib.Core.List.{List, _++_}
+use Rattle.plain.specs.Ascii.{ascii}
 
 -- a text whose lines stand in a data section
 abbrev pub inData : String → List ℕ

@@ -7,6 +7,7 @@ use mathlib.Core.List.{List, [], _∷_, map}
 use lib.Dec.{eqb}
 use lib.Ieee.{Float, binary64, toBits, ofBits, neg}
 use lib.ListN.{length}
+use Rattle.plain.specs.Ascii.{ascii}
 use Rattle.plain.specs.Choice.{if_then_else_}
 use Rattle.plain.specs.Doubles.{printed}
 use Rattle.plain.specs.Lists.{equal}
@@ -29,7 +30,7 @@ use Rattle.pool.specs.Remove.{without, removeAnswer}
 use Rattle.globe.specs.Orientation.{orientationFrom, orientationReply}
 use Rattle.globe.specs.Radii.{radiiReply}
 use Rattle.globe.specs.declared.source.Source.the-variants as S
-use Rattle.promises.specs.Ascii.{ascii, inData}
+use Rattle.promises.specs.Ascii.{inData}
 
 -- ---- words of the table
 

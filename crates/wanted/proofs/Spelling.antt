@@ -6,7 +6,6 @@ use native.Mathlib.Omega.{arith}
 use lib.Dec.{ltb}
 use lib.ListN.{length, length-append}
 use Rattle.plain.specs.Choice.{if_then_else_}
-use Rattle.plain.specs.Bytes.{UNDERSCORE}
 use Rattle.text.specs.Statements.{NAME}
 use Rattle.wanted.specs.Names.{SUFFIX, FIGURES, figure, numeral, suffix, nameOf}
 use Rattle.wanted.specs.declared.name.Wanted.{Wanted}
@@ -35,4 +34,4 @@ suffix-length W.Radii = omega arith
 pub name-length : (n : ℕ) (wanted : Wanted) → length (nameOf n wanted) ≤ NAME
 unfolding nameOf
 name-length n wanted =
-    omega (arith, numeral-length n, suffix-length wanted, length-append (numeral n) (UNDERSCORE ∷ suffix wanted))
+    omega (arith, numeral-length n, suffix-length wanted, length-append (numeral n) (suffix wanted))

@@ -4,28 +4,28 @@ use Prim.Native.Nat.{ℕ, _+_, _/_, _%_}
 use mathlib.Core.List.{List, [], _∷_, _++_}
 use lib.Dec.{ltb}
 use Rattle.plain.specs.Choice.{if_then_else_}
-use Rattle.plain.specs.Bytes.{ZERO, UNDERSCORE}
+use Rattle.plain.specs.Bytes.{ZERO}
+use Rattle.plain.specs.Ascii.{ascii}
 use Rattle.wanted.specs.declared.name.Wanted.{Wanted}
 use Rattle.wanted.specs.declared.name.Wanted.the-variants as W
 
--- BODY
 abbrev pub BODY : List ℕ
-BODY = 66 ∷ 79 ∷ 68 ∷ 89 ∷ []
+BODY = ascii "BODY"
 
--- POLE_RA, POLE_DEC, PM, NUT_PREC_RA, NUT_PREC_DEC, NUT_PREC_PM, NUT_PREC_ANGLES, RADII
+-- what follows the code
 abbrev pub suffix : Wanted → List ℕ
-suffix W.PoleRa = 80 ∷ 79 ∷ 76 ∷ 69 ∷ 95 ∷ 82 ∷ 65 ∷ []
-suffix W.PoleDec = 80 ∷ 79 ∷ 76 ∷ 69 ∷ 95 ∷ 68 ∷ 69 ∷ 67 ∷ []
-suffix W.Pm = 80 ∷ 77 ∷ []
-suffix W.NutPrecRa = 78 ∷ 85 ∷ 84 ∷ 95 ∷ 80 ∷ 82 ∷ 69 ∷ 67 ∷ 95 ∷ 82 ∷ 65 ∷ []
-suffix W.NutPrecDec = 78 ∷ 85 ∷ 84 ∷ 95 ∷ 80 ∷ 82 ∷ 69 ∷ 67 ∷ 95 ∷ 68 ∷ 69 ∷ 67 ∷ []
-suffix W.NutPrecPm = 78 ∷ 85 ∷ 84 ∷ 95 ∷ 80 ∷ 82 ∷ 69 ∷ 67 ∷ 95 ∷ 80 ∷ 77 ∷ []
-suffix W.NutPrecAngles = 78 ∷ 85 ∷ 84 ∷ 95 ∷ 80 ∷ 82 ∷ 69 ∷ 67 ∷ 95 ∷ 65 ∷ 78 ∷ 71 ∷ 76 ∷ 69 ∷ 83 ∷ []
-suffix W.Radii = 82 ∷ 65 ∷ 68 ∷ 73 ∷ 73 ∷ []
+suffix W.PoleRa = ascii "_POLE_RA"
+suffix W.PoleDec = ascii "_POLE_DEC"
+suffix W.Pm = ascii "_PM"
+suffix W.NutPrecRa = ascii "_NUT_PREC_RA"
+suffix W.NutPrecDec = ascii "_NUT_PREC_DEC"
+suffix W.NutPrecPm = ascii "_NUT_PREC_PM"
+suffix W.NutPrecAngles = ascii "_NUT_PREC_ANGLES"
+suffix W.Radii = ascii "_RADII"
 
--- the longest of them
+-- the length of the longest of them
 abbrev pub SUFFIX : ℕ
-SUFFIX = 15
+SUFFIX = 16
 
 -- the largest code, and how many figures it has
 abbrev pub LARGEST : ℕ
@@ -45,4 +45,4 @@ numeral n =
     else (figure (n / 100) ∷ figure (n / 10 % 10) ∷ figure (n % 10) ∷ []))
 
 unfoldable pub nameOf : ℕ → Wanted → List ℕ
-nameOf n wanted = BODY ++ (numeral n ++ (UNDERSCORE ∷ suffix wanted))
+nameOf n wanted = BODY ++ (numeral n ++ suffix wanted)

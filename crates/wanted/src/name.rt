@@ -26,8 +26,7 @@ pub fn spell(code: u32, wanted: Wanted, out: &mut [u8]) -> usize
 {
     let after_body = append(b"BODY", out, 0);
     let after_code = append_code(code, out, after_body);
-    let after_mark = append(b"_", out, after_code);
-    append_suffix(wanted, out, after_mark)
+    append_suffix(wanted, out, after_code)
 }
 
 // The code in figures, without leading zeros.
@@ -64,13 +63,13 @@ fn append_suffix(wanted: Wanted, out: &mut [u8], at: usize) -> usize
     ensures { λ r. ⌜ Writes at (suffix wanted) (now (out .entry)) r (now (out .exit)) ⌝ }
 {
     match wanted {
-        Wanted::PoleRa => append(b"POLE_RA", out, at),
-        Wanted::PoleDec => append(b"POLE_DEC", out, at),
-        Wanted::Pm => append(b"PM", out, at),
-        Wanted::NutPrecRa => append(b"NUT_PREC_RA", out, at),
-        Wanted::NutPrecDec => append(b"NUT_PREC_DEC", out, at),
-        Wanted::NutPrecPm => append(b"NUT_PREC_PM", out, at),
-        Wanted::NutPrecAngles => append(b"NUT_PREC_ANGLES", out, at),
-        Wanted::Radii => append(b"RADII", out, at),
+        Wanted::PoleRa => append(b"_POLE_RA", out, at),
+        Wanted::PoleDec => append(b"_POLE_DEC", out, at),
+        Wanted::Pm => append(b"_PM", out, at),
+        Wanted::NutPrecRa => append(b"_NUT_PREC_RA", out, at),
+        Wanted::NutPrecDec => append(b"_NUT_PREC_DEC", out, at),
+        Wanted::NutPrecPm => append(b"_NUT_PREC_PM", out, at),
+        Wanted::NutPrecAngles => append(b"_NUT_PREC_ANGLES", out, at),
+        Wanted::Radii => append(b"_RADII", out, at),
     }
 }

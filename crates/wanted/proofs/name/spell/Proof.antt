@@ -16,14 +16,8 @@ append-requires c κs = search needs
 append-code-requires : tie.Need-append-code-requires
 append-code-requires c κs = search needs
 
-slice-aggregate-append-2 : tie.Need-slice-aggregate-append-2
-slice-aggregate-append-2 c = search needs
-
-append-requires-2 : tie.Need-append-requires-2
-append-requires-2 c κs = record { fits = omega (arith, numeral-length (c .before .before .before .before .before .before .before .before .before .before .before .before .args .code)) }
-
 append-suffix-requires : tie.Need-append-suffix-requires
-append-suffix-requires c κs = omega (arith, numeral-length (c .before .before .before .before .before .before .before .before .before .before .before .before .before .before .before .before .args .code))
+append-suffix-requires c κs = omega (arith, numeral-length (c .before .before .before .before .before .before .before .before .before .before .before .args .code))
 
 same-length : tie.Need-same-length
 same-length c = search needs
@@ -31,9 +25,8 @@ same-length c = search needs
 returns : tie.Need-returns
 unfolding nameOf
 returns c =
-    writes-then _ _ (c .before .before .before .before .before .before .before .before .before .before .before .before .before .before .before .append .ensures)
-    (writes-then _ _ (c .before .before .before .before .before .before .before .before .before .before .before .append-code .ensures)
-    (writes-then _ _ (c .before .before .before .before .before .before .append2 .ensures) (c .before .before .append-suffix .ensures)))
+    writes-then _ _ (c .before .before .before .before .before .before .before .before .before .before .append .ensures)
+    (writes-then _ _ (c .before .before .before .before .before .before .append-code .ensures) (c .before .before .append-suffix .ensures))
 
 pub spell-spec : {M : Type 1} → statement M
 spell-spec =
@@ -42,8 +35,6 @@ spell-spec =
     slice-aggregate-append
     append-requires
     append-code-requires
-    slice-aggregate-append-2
-    append-requires-2
     append-suffix-requires
     same-length
     returns)
