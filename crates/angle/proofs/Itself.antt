@@ -8,9 +8,9 @@ use lib.Dec.{T}
 use lib.Ieee.{Float, nan, inf, fin, binary64, up, down, lt, le, eq, rem, round, fits}
 use lib.Ieee.Fits.{nan-fits, round-fits, add-fits}
 use Rattle.plain.specs.Choice.{if_then_else_}
-use Rattle.plain.specs.Doubles.{_⊕_, remainder, printed}
+use Rattle.plain.specs.Doubles.{_⊕_, remainder, printed, nought}
 use Rattle.plain.proofs.Values.{round-back}
-use Rattle.angle.specs.Wrap.{nought, turn, plusZero, kept, lifted, wrapped}
+use Rattle.angle.specs.Wrap.{turn, plusZero, kept, lifted, wrapped}
 use Rattle.angle.specs.Range.{InTurn}
 use Rattle.angle.proofs.Range.{BelowTurn, below-turn, not-below-nought, wrapped-in-turn}
 

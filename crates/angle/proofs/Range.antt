@@ -10,9 +10,9 @@ use lib.Dec.{eqb}
 use lib.Ieee.{Float, nan, inf, fin, up, down, lt, le, eq, round}
 use lib.Ieee.Fits.{down-pos}
 use Rattle.plain.specs.Choice.{if_then_else_}
-use Rattle.plain.specs.Doubles.{remainder, printed}
+use Rattle.plain.specs.Doubles.{remainder, printed, nought}
 use Rattle.plain.proofs.Tests.{both}
-use Rattle.angle.specs.Wrap.{nought, turn, kept, lifted, wrapped}
+use Rattle.angle.specs.Wrap.{turn, kept, lifted, wrapped}
 use Rattle.angle.specs.Range.{InTurn}
 
 nought-in-turn : InTurn nought

@@ -11,12 +11,12 @@ use lib.Ieee.{Float, nan, inf, fin, lt, round}
 use lib.Ieee.Fits.{down-pos}
 use lib.Ieee.Scale.{finite}
 use Rattle.plain.specs.Choice.{if_then_else_}
-use Rattle.plain.specs.Doubles.{_⊕_, _⊖_, _⊗_, _⊘_, remainder, printed}
+use Rattle.plain.specs.Doubles.{_⊕_, _⊖_, _⊗_, _⊘_, remainder, printed, nought, one}
 use Rattle.plain.specs.Sizes.{Below}
 use Rattle.plain.proofs.Sizes.{Large}
 use Rattle.plain.proofs.Bounded.{Under, finite-under, weaken-under, neg-under, ⊕-under, ⊖-under, ⊗-under, ⊘-under, remainder-under}
-use Rattle.angle.specs.Wrap.{nought, turn, wrapped}
-use Rattle.angle.specs.Series.{one, closing, sineDivisors, cosineDivisors}
+use Rattle.angle.specs.Wrap.{turn, wrapped}
+use Rattle.angle.specs.Series.{closing, sineDivisors, cosineDivisors}
 use Rattle.angle.specs.Sine.{radians, core, quarter, half, threeQuarters, ofWrapped, sineCosine}
 use Rattle.angle.specs.Finite.{FiniteWrap, FiniteSeries, FinitePair, FiniteSine}
 use Rattle.angle.specs.declared.sine.SineCosine.{SineCosine}

@@ -4,9 +4,9 @@ use mathlib.Core.Bool.{true}
 use mathlib.Core.List.{List, [], _∷_}
 use lib.Ieee.{Float}
 use lib.Ieee.Scale.{finite}
-use Rattle.plain.specs.Doubles.{_⊖_, _⊗_, _⊘_, remainder, printed}
+use Rattle.plain.specs.Doubles.{_⊖_, _⊗_, _⊘_, remainder, printed, one}
 use Rattle.angle.specs.Wrap.{turn, lifted, wrapped}
-use Rattle.angle.specs.Series.{one, closing, sineDivisors, cosineDivisors}
+use Rattle.angle.specs.Series.{closing, sineDivisors, cosineDivisors}
 use Rattle.angle.specs.Sine.{radians, sineCosine}
 
 -- r = x % 360, and r + 360 if r < 0

@@ -2,7 +2,8 @@
 use mathlib.Core.Path.{_≡_}
 use mathlib.Core.Bool.{true}
 use lib.Ieee.{Float, lt, le, eq}
-use Rattle.angle.specs.Wrap.{nought, turn}
+use Rattle.plain.specs.Doubles.{nought}
+use Rattle.angle.specs.Wrap.{turn}
 
 -- at least 0 and below 360, and never −0: a zero is +0
 pub record InTurn (x : Float) : Type 0 where

@@ -3,12 +3,9 @@ use mathlib.Core.List.{List, [], _∷_}
 use Prim.Native.Nat.{ℕ, _-_}
 use lib.Ieee.{Float}
 use lib.ListN.{length, drop}
-use Rattle.plain.specs.Doubles.{_⊖_, _⊗_, _⊘_, printed}
+use Rattle.plain.specs.Doubles.{_⊖_, _⊗_, _⊘_, printed, one}
 use Rattle.angle.specs.declared.series.Series.{Series}
 use Rattle.angle.specs.declared.series.Series.the-variants as S
-
-abbrev pub one : Float
-one = printed 1 0
 
 -- the series from q on, over the divisors that remain
 unfoldable pub closing : (z q : Float) → List Float → Float

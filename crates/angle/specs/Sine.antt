@@ -1,9 +1,9 @@
 -- "Sine and cosine of x degrees: wrap x, then take y; each pair is (sine, cosine)." Definitions only.
 use lib.Ieee.{Float, lt, neg}
 use Rattle.plain.specs.Choice.{if_then_else_}
-use Rattle.plain.specs.Doubles.{_⊖_, _⊗_, printed}
+use Rattle.plain.specs.Doubles.{_⊖_, _⊗_, printed, one}
 use Rattle.angle.specs.Wrap.{wrapped, turn}
-use Rattle.angle.specs.Series.{closing, one, sineDivisors, cosineDivisors}
+use Rattle.angle.specs.Series.{closing, sineDivisors, cosineDivisors}
 use Rattle.angle.specs.declared.sine.SineCosine.{SineCosine}
 
 -- "t = y · 0.017453292519943295"

@@ -3,11 +3,7 @@
 use mathlib.Core.Bool.{Bool, _&&_}
 use lib.Ieee.{Float, lt, le, eq}
 use Rattle.plain.specs.Choice.{if_then_else_}
-use Rattle.plain.specs.Doubles.{_⊕_, remainder, printed}
-
--- +0
-abbrev pub nought : Float
-nought = printed 0 0
+use Rattle.plain.specs.Doubles.{_⊕_, remainder, printed, nought}
 
 -- 360
 abbrev pub turn : Float

@@ -3,7 +3,8 @@ ghost use mathlib.Core.Path.{_≡_};
 ghost use Prim.Native.Nat.{_-_, _≤_, _<_};
 ghost use lib.Ieee.{nan};
 ghost use lib.ListN.{length, getD};
-ghost use Rattle.angle.specs.Series.{one, closing, sineDivisors, cosineDivisors, divisorsOf, last};
+ghost use Rattle.plain.specs.Doubles.{one};
+ghost use Rattle.angle.specs.Series.{closing, sineDivisors, cosineDivisors, divisorsOf, last};
 
 const SINE: [f64; 7] = [210.0, 156.0, 110.0, 72.0, 42.0, 20.0, 6.0];
 

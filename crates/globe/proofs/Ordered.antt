@@ -14,11 +14,11 @@ use Rattle.plain.proofs.Tests.{true-false}
 use Rattle.layout.specs.State.{Pool}
 use Rattle.wanted.specs.Elements.{there, list, fewValues, nutating, angles, enoughAngles}
 use Rattle.globe.specs.Orientation.{byElements}
-use Rattle.wanted.specs.Steps.{valuesOf, one, baseOf, byNutation}
+use Rattle.wanted.specs.Steps.{valuesOf, presence, baseOf, byNutation}
 use Rattle.wanted.specs.declared.elements.Values.{Values}
 use Rattle.wanted.specs.declared.name.Wanted.the-variants as W
 use Rattle.wanted.proofs.Found.{not-there-empty}
-use Rattle.wanted.proofs.Polynomials.{one-most}
+use Rattle.wanted.proofs.Polynomials.{presence-most}
 
 neither : (a b : Bool) → (a || b) ≡ false → (a ≡ false) × (b ≡ false)
 neither true b e = true-false e
@@ -28,16 +28,16 @@ either-way : (b : Bool) (x : Oriented) → (if b then x else x) ≡ x
 either-way true x = refl
 either-way false x = refl
 
-one-true : (xs : List Float) → one (valuesOf true xs) ≡ 1
-one-true xs = by (fewValues xs) refl
+presence-true : (xs : List Float) → presence (valuesOf true xs) ≡ 1
+presence-true xs = by (fewValues xs) refl
   where
-    by : (b : Bool) → fewValues xs ≡ b → one (valuesOf true xs) ≡ 1
+    by : (b : Bool) → fewValues xs ≡ b → presence (valuesOf true xs) ≡ 1
     by true e = rw e
     by false e = rw e
 
-one-there : (there : Bool) (xs : List Float) → 1 ≤ one (valuesOf there xs) → there ≡ true
-one-there true xs h = refl
-one-there false xs h = absurd (omega arith)
+presence-there : (there : Bool) (xs : List Float) → 1 ≤ presence (valuesOf there xs) → there ≡ true
+presence-there true xs h = refl
+presence-there false xs h = absurd (omega arith)
 
 module _ (s : Pool) (n k : ℕ) (epoch : Float) where
   abbrev ra : Values
@@ -49,30 +49,30 @@ module _ (s : Pool) (n k : ℕ) (epoch : Float) where
   abbrev pm : Values
   pm = valuesOf (there s n W.Pm) (list s n W.Pm)
 
-  none-by : (a b c : Bool) → there s n W.PoleRa ≡ a → there s n W.PoleDec ≡ b → there s n W.Pm ≡ c → one ra + one dec + one pm ≡ 0
+  none-by : (a b c : Bool) → there s n W.PoleRa ≡ a → there s n W.PoleDec ≡ b → there s n W.Pm ≡ c → presence ra + presence dec + presence pm ≡ 0
       → Refused UnknownBody ≡ byElements s n epoch (Of k)
   none-by true b c e f g h =
-      absurd (let z : one (valuesOf true (list s n W.PoleRa)) + one dec + one pm ≡ 0 = rw e at h in omega (arith, one-true (list s n W.PoleRa)))
+      absurd (let z : presence (valuesOf true (list s n W.PoleRa)) + presence dec + presence pm ≡ 0 = rw e at h in omega (arith, presence-true (list s n W.PoleRa)))
   none-by false true c e f g h =
-      absurd (let z : one ra + one (valuesOf true (list s n W.PoleDec)) + one pm ≡ 0 = rw f at h in omega (arith, one-true (list s n W.PoleDec)))
+      absurd (let z : presence ra + presence (valuesOf true (list s n W.PoleDec)) + presence pm ≡ 0 = rw f at h in omega (arith, presence-true (list s n W.PoleDec)))
   none-by false false true e f g h =
-      absurd (let z : one ra + one dec + one (valuesOf true (list s n W.Pm)) ≡ 0 = rw g at h in omega (arith, one-true (list s n W.Pm)))
+      absurd (let z : presence ra + presence dec + presence (valuesOf true (list s n W.Pm)) ≡ 0 = rw g at h in omega (arith, presence-true (list s n W.Pm)))
   none-by false false false e f g h = simp (e, f, g)
 
-  pub none-there : one ra + one dec + one pm ≡ 0 → Refused UnknownBody ≡ byElements s n epoch (Of k)
+  pub none-there : presence ra + presence dec + presence pm ≡ 0 → Refused UnknownBody ≡ byElements s n epoch (Of k)
   none-there = none-by (there s n W.PoleRa) (there s n W.PoleDec) (there s n W.Pm) refl refl refl
 
-  some-by : (a b c : Bool) → there s n W.PoleRa ≡ a → there s n W.PoleDec ≡ b → there s n W.Pm ≡ c → 0 < one ra + one dec + one pm
-      → one ra + one dec + one pm < 3 → Refused Incomplete ≡ byElements s n epoch (Of k)
+  some-by : (a b c : Bool) → there s n W.PoleRa ≡ a → there s n W.PoleDec ≡ b → there s n W.Pm ≡ c → 0 < presence ra + presence dec + presence pm
+      → presence ra + presence dec + presence pm < 3 → Refused Incomplete ≡ byElements s n epoch (Of k)
   some-by true true true e f g h i =
-      absurd (let z : 3 < 3 = rw (e, f, g, one-true (list s n W.PoleRa), one-true (list s n W.PoleDec), one-true (list s n W.Pm)) at i in omega arith)
+      absurd (let z : 3 < 3 = rw (e, f, g, presence-true (list s n W.PoleRa), presence-true (list s n W.PoleDec), presence-true (list s n W.Pm)) at i in omega arith)
   some-by true true false e f g h i = simp (e, f, g)
   some-by true false c e f g h i = simp (e, f)
   some-by false true c e f g h i = simp (e, f)
   some-by false false true e f g h i = simp (e, f, g)
   some-by false false false e f g h i = absurd (let z : 0 < 0 = rw (e, f, g) at h in omega arith)
 
-  pub some-missing : 0 < one ra + one dec + one pm → one ra + one dec + one pm < 3 → Refused Incomplete ≡ byElements s n epoch (Of k)
+  pub some-missing : 0 < presence ra + presence dec + presence pm → presence ra + presence dec + presence pm < 3 → Refused Incomplete ≡ byElements s n epoch (Of k)
   some-missing = some-by (there s n W.PoleRa) (there s n W.PoleDec) (there s n W.Pm) refl refl refl
 
   -- ---- all three are there
@@ -97,12 +97,12 @@ module _ (s : Pool) (n k : ℕ) (epoch : Float) where
   counted-by true false z a b c e f g = simp (e, f, g, a, b, either-way)
   counted-by false y z a b c e f g = simp (e, f, g, a, either-way)
 
-  pub all-there : 3 ≤ one ra + one dec + one pm → byNutation s n k epoch (baseOf ra dec pm) ≡ byElements s n epoch (Of k)
+  pub all-there : 3 ≤ presence ra + presence dec + presence pm → byNutation s n k epoch (baseOf ra dec pm) ≡ byElements s n epoch (Of k)
   all-there h =
-      let x = one-most ra in
-      let y = one-most dec in
-      let z = one-most pm in
+      let x = presence-most ra in
+      let y = presence-most dec in
+      let z = presence-most pm in
       counted-by (fewValues (list s n W.PoleRa)) (fewValues (list s n W.PoleDec)) (fewValues (list s n W.Pm)) refl refl refl
-      (one-there (there s n W.PoleRa) (list s n W.PoleRa) (omega arith))
-      (one-there (there s n W.PoleDec) (list s n W.PoleDec) (omega arith))
-      (one-there (there s n W.Pm) (list s n W.Pm) (omega arith))
+      (presence-there (there s n W.PoleRa) (list s n W.PoleRa) (omega arith))
+      (presence-there (there s n W.PoleDec) (list s n W.PoleDec) (omega arith))
+      (presence-there (there s n W.Pm) (list s n W.Pm) (omega arith))

@@ -15,7 +15,7 @@ use Rattle.text.specs.Statements.{Statement}
 use Rattle.text.specs.Text.{Read, fine, refused, readText}
 use Rattle.text.proofs.FirstFault.{number-within}
 use Rattle.layout.specs.State.{Pool, program, flat, valuesOf, values}
-use Rattle.layout.specs.Limits.{TEXTS, STATEMENTS, VALUES, room, LONGEST}
+use Rattle.layout.specs.Limits.{TEXTS, STATEMENTS, VALUES, room, LONGEST-LOAD}
 use Rattle.layout.specs.Memory.{decode}
 use Rattle.layout.specs.Damage.{sound}
 use Rattle.layout.proofs.Sound.{sound-of}
@@ -46,20 +46,20 @@ lines-few (b ∷ bs) = by (eqb b LF) (eqb b CR && atLF bs) (lines bs) (lines-few
     by false false [] h = omega arith
     by false false (l ∷ ls) h = omega arith
 
-line-admitted : (bytes : List ℕ) (r : Read) (roomy : Bool) → readText bytes ≡ r → length bytes ≤ LONGEST → replyLine (admitted r roomy) ≤ LONGEST
+line-admitted : (bytes : List ℕ) (r : Read) (roomy : Bool) → readText bytes ≡ r → length bytes ≤ LONGEST-LOAD → replyLine (admitted r roomy) ≤ LONGEST-LOAD
 line-admitted bytes (fine es) true e h = omega arith
 line-admitted bytes (fine es) false e h = omega arith
 line-admitted bytes (refused q line place) roomy e h = omega (arith, number-within bytes q line place e .1, lines-few bytes)
 
-pub line-few : (label : ℕ) (bytes m : List ℕ) → replyLine (loadReply label bytes m) ≤ LONGEST
+pub line-few : (label : ℕ) (bytes m : List ℕ) → replyLine (loadReply label bytes m) ≤ LONGEST-LOAD
 unfolding loadReply loadAnswer
-line-few label bytes m = by (sound m) (held label (decode m)) (ltb LONGEST (length bytes)) refl
+line-few label bytes m = by (sound m) (held label (decode m)) (ltb LONGEST-LOAD (length bytes)) refl
   where
-    by : (x y z : Bool) → ltb LONGEST (length bytes) ≡ z
-        → replyLine (if x then (if y then refusing LabelHeld else (if z then refusing TextTooLong else admitted (readText bytes) (room (with (decode m) (textOf label bytes))))) else refusing DamagedPool) ≤ LONGEST
+    by : (x y z : Bool) → ltb LONGEST-LOAD (length bytes) ≡ z
+        → replyLine (if x then (if y then refusing LabelHeld else (if z then refusing TextTooLong else admitted (readText bytes) (room (with (decode m) (textOf label bytes))))) else refusing DamagedPool) ≤ LONGEST-LOAD
     by true true z e = omega arith
     by true false true e = omega arith
-    by true false false e = line-admitted bytes (readText bytes) (room (with (decode m) (textOf label bytes))) refl (ltb-false LONGEST (length bytes) e)
+    by true false false e = line-admitted bytes (readText bytes) (room (with (decode m) (textOf label bytes))) refl (ltb-false LONGEST-LOAD (length bytes) e)
     by false y z e = omega arith
 
 -- ---- counts

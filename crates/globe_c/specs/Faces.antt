@@ -3,7 +3,7 @@ use Prim.Native.Nat.{ℕ, _%_}
 use mathlib.Core.Path.{_≡_}
 use mathlib.Core.List.{List}
 use lib.Ieee.{Float}
-use Rattle.plain.specs.Doubles.{printed}
+use Rattle.plain.specs.Doubles.{nought}
 use Rattle.refusal.specs.Numbers.{SUCCESS, numberOf}
 use Rattle.rotation.specs.declared.matrix.Oriented.{Oriented}
 use Rattle.rotation.specs.declared.matrix.Oriented.the-variants as O
@@ -38,9 +38,6 @@ countsFace r =
       statements = narrow (countsStatements r);
       values = narrow (countsValues r);
     }
-
-abbrev pub nought : Float
-nought = printed 0 0
 
 unfoldable pub orientedFace : Oriented → GlobeOriented
 orientedFace (O.Given o) =

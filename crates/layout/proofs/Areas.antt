@@ -8,12 +8,12 @@ use lib.Seq.{length-take-le}
 use Rattle.words.specs.Over.{part}
 use Rattle.layout.specs.Limits.{NAMEWORDS, TEXTS-AT, HEADS-AT, NAMES-AT, VALUES-AT}
 use Rattle.layout.specs.Memory.{textCount, statementCount, valueCount, textWords, headWords, nameWords, valueWords}
-use Rattle.layout.specs.Damage.{Sized}
+use Rattle.layout.specs.Damage.{Framed}
 
 pub length-part : {A : Type 0} (o n : ℕ) (m : List A) → o + n ≤ length m → length (part o n m) ≡ n
 length-part o n m h = length-take-le n _ (omega (arith, length-drop o m))
 
-module _ (m : List ℕ) (z : Sized m) where
+module _ (m : List ℕ) (z : Framed m) where
   pub length-texts : length (textWords m) ≡ textCount m
   length-texts = length-part TEXTS-AT (textCount m) m (omega arith)
 

@@ -17,7 +17,7 @@ use Rattle.words.proofs.Over.{length-over, part-over, each-over}
 use Rattle.layout.specs.State.{Text, Pool, program, flat, valuesOf, values}
 use Rattle.layout.specs.Limits.{WORDS, NAMEWORDS, TEXTS-AT, HEADS-AT, NAMES-AT, VALUES-AT}
 use Rattle.layout.specs.Memory.{textCount, statementCount, valueCount, textWords, headWords, nameWords, valueWords, cutStatements, cutTexts, decode, textWord, headWord, nameOf, totals, put}
-use Rattle.layout.specs.Damage.{Sized, small, sound}
+use Rattle.layout.specs.Damage.{Framed, small, sound}
 use Rattle.layout.proofs.Areas.{length-texts, length-heads, length-names, length-values}
 use Rattle.layout.proofs.Sound.{Sound, Named, of-sound}
 use Rattle.layout.proofs.Columns.{At, at-after, Column, Spaced, Within, Room, Stands, putColumns, at-putColumns, length-putColumns, stands-over, put-stands, flat-map}
@@ -128,8 +128,8 @@ module _ (m : List ℕ) (s : Pool) (H : Holds m s) where
       ap₂ cutTexts (H .texts) ((λ i. cutStatements (H .heads i) (H .names i) (H .values i)) ∙ cut-statements (program s) f short)
       ∙ cut-texts s short-texts
 
-  pub holds-sized : Sized m
-  holds-sized = record {
+  pub holds-framed : Framed m
+  holds-framed = record {
     words = H .words;
     texts = omega (arith, H .textCount=, H .fits .texts);
     statements = omega (arith, H .statementCount=, H .fits .statements);
@@ -138,7 +138,7 @@ module _ (m : List ℕ) (s : Pool) (H : Holds m s) where
 
   pub holds-sound : Legal s → Sound m
   holds-sound L = record {
-    sizes = holds-sized;
+    sizes = holds-framed;
     labels = subst (λ (ws : List ℕ). Different (map upper ws)) (sym (H .texts)) (subst Different (sym (labels-laid s short-texts)) (L .labels));
     names = subst (λ (hs : List ℕ). Named hs (nameWords m)) (sym (H .heads)) (subst (Named (map headWord (program s))) (sym (H .names)) (named-laid (program s) (L .statements)));
     operators = subst (Each (λ h. upper h ≤ 1)) (sym (H .heads)) (operators-laid (program s) short);

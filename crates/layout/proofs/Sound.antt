@@ -15,7 +15,7 @@ use Rattle.words.proofs.Halves.{Different, distinct-different, different-distin
 use Rattle.layout.specs.Limits.{TEXTS, STATEMENTS, VALUES, WORDS, NAMEWORDS}
 use Rattle.layout.specs.Names.{holdsName}
 use Rattle.layout.specs.Memory.{textCount, statementCount, valueCount, textWords, headWords, nameWords, valueWords}
-use Rattle.layout.specs.Damage.{Sized, sized, limited, labelled, named, operated, counted, grouped, bounded, small, allNamed, sound}
+use Rattle.layout.specs.Damage.{Framed, sized, limited, labelled, named, operated, summed, grouped, bounded, small, allNamed, sound}
 
 -- each statement's four words hold a legal name
 abbrev pub Named : (heads names : List ℕ) → Type 0
@@ -23,7 +23,7 @@ Named [] ns = Unit {0}
 Named (h ∷ hs) ns = (holdsName (take NAMEWORDS ns) ≡ true) × Named hs (drop NAMEWORDS ns)
 
 pub record Sound (m : List ℕ) : Type 0 where
-  pub sizes : Sized m
+  pub sizes : Framed m
   pub labels : Different (map upper (textWords m))
   pub names : Named (headWords m) (nameWords m)
   pub operators : Each (λ h. upper h ≤ 1) (headWords m)
@@ -39,7 +39,7 @@ abbrev pub from-groups : List ℕ → Bool
 from-groups m = grouped m && bounded m
 
 abbrev pub from-counts : List ℕ → Bool
-from-counts m = counted m && from-groups m
+from-counts m = summed m && from-groups m
 
 abbrev pub from-operators : List ℕ → Bool
 from-operators m = operated m && from-counts m
@@ -64,10 +64,10 @@ in-order true true true true true true g b = refl
 
 pub sound-in-order : (m : List ℕ) → sound m ≡ sized m && from-limits m
 unfolding sound
-sound-in-order m = in-order (sized m) (limited m) (labelled m) (named m) (operated m) (counted m) (grouped m) (bounded m)
+sound-in-order m = in-order (sized m) (limited m) (labelled m) (named m) (operated m) (summed m) (grouped m) (bounded m)
 
-pub sized-of : (m : List ℕ) → sized m ≡ true → limited m ≡ true → Sized m
-sized-of m e f =
+pub framed-of : (m : List ℕ) → sized m ≡ true → limited m ≡ true → Framed m
+framed-of m e f =
     let a = both (leb (textCount m) TEXTS && leb (statementCount m) STATEMENTS) (leb (valueCount m) VALUES) f in
     let b = both (leb (textCount m) TEXTS) (leb (statementCount m) STATEMENTS) (a .0) in
     record { words = eqb-true _ _ e; texts = leb-true _ _ (b .0); statements = leb-true _ _ (b .1); values = leb-true _ _ (a .1) }
@@ -95,11 +95,11 @@ sound-of m e =
     let a = both (labelled m) (from-names m) (l .1) in
     let n = both (named m) (from-operators m) (a .1) in
     let o = both (operated m) (from-counts m) (n .1) in
-    let c = both (counted m) (from-groups m) (o .1) in
+    let c = both (summed m) (from-groups m) (o .1) in
     let d = both (all (λ h. leb 1 (lower h)) (headWords m)) (eqb (sum (headWords m)) (valueCount m)) (c .0) in
     let g = both (grouped m) (bounded m) (c .1) in
     record {
-      sizes = sized-of m (z .0) (l .0);
+      sizes = framed-of m (z .0) (l .0);
       labels = distinct-different (textWords m) (a .0);
       names = named-of (headWords m) (nameWords m) (n .0);
       operators = each-weaken _ _ (λ h f. leb-true (upper h) 1 f) (headWords m) (all-each (λ h. leb (upper h) 1) (headWords m) (o .0));

@@ -20,7 +20,7 @@ abbrev pub limited : List ℕ → Bool
 limited m = leb (textCount m) TEXTS && leb (statementCount m) STATEMENTS && leb (valueCount m) VALUES
 
 -- both as facts: what reading the areas requires
-pub record Sized (m : List ℕ) : Type 0 where
+pub record Framed (m : List ℕ) : Type 0 where
   pub words : length m ≡ WORDS
   pub texts : textCount m ≤ TEXTS
   pub statements : statementCount m ≤ STATEMENTS
@@ -43,8 +43,8 @@ abbrev pub operated : List ℕ → Bool
 operated m = all (λ h. leb (upper h) 1) (headWords m)
 
 -- "every statement's count at least 1 and the counts adding up to the total"
-abbrev pub counted : List ℕ → Bool
-counted m = all (λ h. leb 1 (lower h)) (headWords m) && eqb (sum (headWords m)) (valueCount m)
+abbrev pub summed : List ℕ → Bool
+summed m = all (λ h. leb 1 (lower h)) (headWords m) && eqb (sum (headWords m)) (valueCount m)
 
 -- "statements grouped by text in load order, each under a held label": the texts' numbers of statements add up
 abbrev pub grouped : List ℕ → Bool
@@ -67,4 +67,4 @@ bounded m = all small (valueWords m)
 unfoldable pub sound : List ℕ → Bool
 unfolding allNamed
 sound m =
-    if sized m && limited m then labelled m && named m && operated m && counted m && grouped m && bounded m else false
+    if sized m && limited m then labelled m && named m && operated m && summed m && grouped m && bounded m else false

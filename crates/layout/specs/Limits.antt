@@ -41,5 +41,5 @@ unfoldable pub room : Pool → Bool
 room s = leb (length s) TEXTS && leb (length (program s)) STATEMENTS && leb (length (values s)) VALUES
 
 -- the longest text, in bytes
-abbrev pub LONGEST : ℕ
-LONGEST = 65536
+abbrev pub LONGEST-LOAD : ℕ
+LONGEST-LOAD = 65536

@@ -10,11 +10,11 @@ use crate::limits::VALUES_AT;
 use words::read::part_of;
 ghost use mathlib.Core.Path.{_≡_};
 ghost use Rattle.layout.specs.Memory.{textWords, headWords, nameWords, valueWords};
-ghost use Rattle.layout.specs.Damage.{Sized};
+ghost use Rattle.layout.specs.Damage.{Framed};
 
 // One word a text: its label and its number of statements.
 pub fn texts_of(m: &[u64]) -> &[u64]
-    requires { ⌜ Sized (now m) ⌝ }
+    requires { ⌜ Framed (now m) ⌝ }
     ensures { λ r. ⌜ now r ≡ textWords (now (m .entry)) ⌝ }
 {
     part_of(m, TEXTS_AT, m[TEXT_COUNT] as usize)
@@ -22,7 +22,7 @@ pub fn texts_of(m: &[u64]) -> &[u64]
 
 // One word a statement: its operator and its number of values.
 pub fn heads_of(m: &[u64]) -> &[u64]
-    requires { ⌜ Sized (now m) ⌝ }
+    requires { ⌜ Framed (now m) ⌝ }
     ensures { λ r. ⌜ now r ≡ headWords (now (m .entry)) ⌝ }
 {
     part_of(m, HEADS_AT, m[STATEMENT_COUNT] as usize)
@@ -30,7 +30,7 @@ pub fn heads_of(m: &[u64]) -> &[u64]
 
 // Four words a statement: its name.
 pub fn names_of(m: &[u64]) -> &[u64]
-    requires { ⌜ Sized (now m) ⌝ }
+    requires { ⌜ Framed (now m) ⌝ }
     ensures { λ r. ⌜ now r ≡ nameWords (now (m .entry)) ⌝ }
 {
     part_of(m, NAMES_AT, NAMEWORDS * (m[STATEMENT_COUNT] as usize))
@@ -38,7 +38,7 @@ pub fn names_of(m: &[u64]) -> &[u64]
 
 // One word a value: its bits.
 pub fn values_of(m: &[u64]) -> &[u64]
-    requires { ⌜ Sized (now m) ⌝ }
+    requires { ⌜ Framed (now m) ⌝ }
     ensures { λ r. ⌜ now r ≡ valueWords (now (m .entry)) ⌝ }
 {
     part_of(m, VALUES_AT, m[VALUE_COUNT] as usize)

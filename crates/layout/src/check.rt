@@ -20,7 +20,7 @@ ghost use lib.Dec.{leb};
 ghost use lib.ListN.{length};
 ghost use Rattle.words.specs.Halves.{all, upper, lower};
 ghost use Rattle.layout.specs.Limits.{TEXTS-AT};
-ghost use Rattle.layout.specs.Damage.{Sized, sound, sized, limited, labelled, named, operated, counted, grouped, bounded, small};
+ghost use Rattle.layout.specs.Damage.{Framed, sound, sized, limited, labelled, named, operated, summed, grouped, bounded, small};
 
 // 2^52, above which a double has its exponent's field, 11 bits wide.
 const FRACTION: u64 = 4503599627370496;
@@ -49,7 +49,7 @@ pub fn is_sound(m: &[u64]) -> bool
     if !is_operated(m) {
         return false;
     }
-    if !is_counted(m) {
+    if !is_summed(m) {
         return false;
     }
     if !is_grouped(m) {
@@ -81,7 +81,7 @@ fn is_limited(m: &[u64]) -> bool
 
 // "labels distinct"
 fn is_labelled(m: &[u64]) -> bool
-    requires { ⌜ Sized (now m) ⌝ }
+    requires { ⌜ Framed (now m) ⌝ }
     ensures { λ r. ⌜ r ≡ labelled (now (m .entry)) ⌝ }
 {
     all_distinct(texts_of(m))
@@ -89,7 +89,7 @@ fn is_labelled(m: &[u64]) -> bool
 
 // "names .. legal"
 fn is_named(m: &[u64]) -> bool
-    requires { ⌜ Sized (now m) ⌝ }
+    requires { ⌜ Framed (now m) ⌝ }
     ensures { λ r. ⌜ r ≡ named (now (m .entry)) ⌝ }
 {
     all_named(heads_of(m), names_of(m))
@@ -97,16 +97,16 @@ fn is_named(m: &[u64]) -> bool
 
 // "operators legal"
 fn is_operated(m: &[u64]) -> bool
-    requires { ⌜ Sized (now m) ⌝ }
+    requires { ⌜ Framed (now m) ⌝ }
     ensures { λ r. ⌜ r ≡ operated (now (m .entry)) ⌝ }
 {
     all_operated(heads_of(m))
 }
 
 // "every statement's count at least 1 and the counts adding up to the total"
-fn is_counted(m: &[u64]) -> bool
-    requires { ⌜ Sized (now m) ⌝ }
-    ensures { λ r. ⌜ r ≡ counted (now (m .entry)) ⌝ }
+fn is_summed(m: &[u64]) -> bool
+    requires { ⌜ Framed (now m) ⌝ }
+    ensures { λ r. ⌜ r ≡ summed (now (m .entry)) ⌝ }
 {
     let heads = heads_of(m);
     if !all_filled(heads) {
@@ -117,7 +117,7 @@ fn is_counted(m: &[u64]) -> bool
 
 // "statements grouped by text in load order, each under a held label"
 fn is_grouped(m: &[u64]) -> bool
-    requires { ⌜ Sized (now m) ⌝ }
+    requires { ⌜ Framed (now m) ⌝ }
     ensures { λ r. ⌜ r ≡ grouped (now (m .entry)) ⌝ }
 {
     sum_lower(texts_of(m)) == m[STATEMENT_COUNT]
@@ -125,7 +125,7 @@ fn is_grouped(m: &[u64]) -> bool
 
 // "every held value finite and of size below 2^200"
 fn is_bounded(m: &[u64]) -> bool
-    requires { ⌜ Sized (now m) ⌝ }
+    requires { ⌜ Framed (now m) ⌝ }
     ensures { λ r. ⌜ r ≡ bounded (now (m .entry)) ⌝ }
 {
     all_small(values_of(m))

@@ -17,7 +17,7 @@ use Rattle.words.proofs.Each.{words-of}
 use Rattle.layout.specs.State.{Pool}
 use Rattle.layout.specs.Limits.{STATEMENTS, VALUES}
 use Rattle.layout.specs.Memory.{nameWords, decode}
-use Rattle.layout.specs.Damage.{Sized}
+use Rattle.layout.specs.Damage.{Framed}
 use Rattle.layout.proofs.Sound.{Sound, sound-of}
 use Rattle.layout.proofs.Holds.{decode-fits}
 use Rattle.listing.specs.Listing as listing
@@ -64,7 +64,7 @@ module _ (m out : List ℕ) (W : Showing m out) where
   undamaged : Sound m
   undamaged = sound-of m (W .whole)
 
-  pub sized : Sized m
+  pub sized : Framed m
   sized = undamaged .sizes
 
   pub ordering : (names ps : List ℕ) → names ≡ nameWords m → STATEMENTS ≡ length ps → Ordering names ps

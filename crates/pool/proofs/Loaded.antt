@@ -13,7 +13,7 @@ use Rattle.text.specs.Text.{Read, fine, refused, readText}
 use Rattle.plain.proofs.Each.{Each}
 use Rattle.plain.proofs.Tests.{true-false}
 use Rattle.layout.specs.State.{Pool}
-use Rattle.layout.specs.Limits.{room, LONGEST}
+use Rattle.layout.specs.Limits.{room, LONGEST-LOAD}
 use Rattle.layout.specs.Memory.{decode, put}
 use Rattle.layout.specs.Damage.{sound}
 use Rattle.layout.proofs.Holds.{decode-legal, decode-put, put-sound}
@@ -40,20 +40,20 @@ absent label (t ∷ s) e = by (eqb (t .label) label) refl e (absent label s)
 
 pub record Accepted (label : ℕ) (bytes : List ℕ) (s : Pool) : Type 0 where
   pub free : held label s ≡ false
-  pub short : length bytes ≤ LONGEST
+  pub short : length bytes ≤ LONGEST-LOAD
   pub events : List Event
   pub reads : readText bytes ≡ fine events
   pub fits : room (with s (textOf label bytes)) ≡ true
 
 pub done-accepted : (label : ℕ) (bytes : List ℕ) (s : Pool) → done (loadAnswer label bytes s) ≡ true → Accepted label bytes s
 unfolding loadAnswer
-done-accepted label bytes s = by (held label s) (ltb LONGEST (length bytes)) (readText bytes) (room (with s (textOf label bytes))) refl refl refl refl
+done-accepted label bytes s = by (held label s) (ltb LONGEST-LOAD (length bytes)) (readText bytes) (room (with s (textOf label bytes))) refl refl refl refl
   where
-    by : (h l : Bool) (x : Read) (r : Bool) → held label s ≡ h → ltb LONGEST (length bytes) ≡ l → readText bytes ≡ x → room (with s (textOf label bytes)) ≡ r
+    by : (h l : Bool) (x : Read) (r : Bool) → held label s ≡ h → ltb LONGEST-LOAD (length bytes) ≡ l → readText bytes ≡ x → room (with s (textOf label bytes)) ≡ r
         → done (if h then refusing LabelHeld else (if l then refusing TextTooLong else admitted x r)) ≡ true → Accepted label bytes s
     by true l x r a b c d e = true-false (sym e)
     by false true x r a b c d e = true-false (sym e)
-    by false false (fine es) true a b c d e = record { free = a; short = ltb-false LONGEST (length bytes) b; events = es; reads = c; fits = d }
+    by false false (fine es) true a b c d e = record { free = a; short = ltb-false LONGEST-LOAD (length bytes) b; events = es; reads = c; fits = d }
     by false false (fine es) false a b c d e = true-false (sym e)
     by false false (refused q i j) r a b c d e = true-false (sym e)
 

@@ -14,7 +14,7 @@ use Rattle.text.specs.Text.{Read, fine, refused, readText, tallied}
 use Rattle.text.specs.declared.Checked.the-variants as C
 use Rattle.text.specs.declared.faults.Fault.{Fault}
 use Rattle.layout.specs.State.{flat, valuesOf}
-use Rattle.layout.specs.Limits.{room, LONGEST}
+use Rattle.layout.specs.Limits.{room, LONGEST-LOAD}
 use Rattle.layout.specs.Memory.{decode, put}
 use Rattle.layout.specs.Damage.{sound}
 use Rattle.pool.specs.Replies.{refusing}
@@ -69,15 +69,15 @@ module _ (label : ℕ) (bytes m : List ℕ) where
     label-held h = refuses LabelHeld 0 (rw (e, h))
 
     module _ (h : held label (decode m) ≡ false) where
-      pub too-long : LONGEST < length bytes → Loads label bytes m (refusing TextTooLong) m
+      pub too-long : LONGEST-LOAD < length bytes → Loads label bytes m (refusing TextTooLong) m
       unfolding loadReply loadAnswer
-      too-long l = refuses TextTooLong 0 (rw (e, h, lt-ltb LONGEST (length bytes) l))
+      too-long l = refuses TextTooLong 0 (rw (e, h, lt-ltb LONGEST-LOAD (length bytes) l))
 
-      module _ (l : length bytes ≤ LONGEST) where
+      module _ (l : length bytes ≤ LONGEST-LOAD) where
         -- by the first pass and the room
         answers : loadReply label bytes m ≡ admitted (readText bytes) (room (with (decode m) (textOf label bytes)))
         unfolding loadReply loadAnswer
-        answers = rw (e, h, le-ltb LONGEST (length bytes) l)
+        answers = rw (e, h, le-ltb LONGEST-LOAD (length bytes) l)
 
         pub faulty : (q : Fault) (line place : ℕ) → tallied (readText bytes) ≡ C.Refused q line place → Loads label bytes m (Refused (refusalOf q) line) m
         faulty q line place t = refuses (refusalOf q) line (answers ∙ ap (λ (x : Read). admitted x (room (with (decode m) (textOf label bytes)))) (tallied-refused (readText bytes) q line place t))

@@ -17,7 +17,7 @@ use Rattle.layout.specs.Memory.{textCount, statementCount, valueCount, textWord
 use Rattle.layout.proofs.Columns.{At, at-left, at-right, closeColumns, flat-append, flat-map}
 use Rattle.layout.proofs.Codec.{each-short, each-short-text, sum-texts, sum-heads, length-laid-names}
 use Rattle.layout.proofs.Legal.{program-append, values-append}
-use Rattle.layout.proofs.Holds.{Holds, perText, perStatement, holds-texts, holds-statements, length-laid-texts, length-laid-heads, holds-sized}
+use Rattle.layout.proofs.Holds.{Holds, perText, perStatement, holds-texts, holds-statements, length-laid-texts, length-laid-heads, holds-framed}
 use Rattle.layout.proofs.Changes as changes
 use Rattle.pool.specs.Gaps.{textGap, statementGap, valueGap, statementsBefore, statementsInside, valuesBefore, valuesInside, closing, left, closed, takenOut, Gapped}
 use Rattle.pool.specs.declared.gap.Gap.{Gap}
@@ -120,7 +120,7 @@ module _ (m : List ℕ) (a : Pool) (t : Text) (b : Pool) (H : Holds m (a ++ (t �
   gapped = record {
     text = omega (arith, count-texts);
     rest = record {
-      sizes = holds-sized m (a ++ (t ∷ b)) H;
+      sizes = holds-framed m (a ++ (t ∷ b)) H;
       statements = omega (arith, before-statements, inside-statements, count-statements);
       values = omega (arith, values-before, values-inside, count-values);
     };

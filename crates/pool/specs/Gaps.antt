@@ -7,7 +7,7 @@ use Rattle.words.specs.Over.{over, part, moved}
 use Rattle.words.specs.Halves.{lower, sum}
 use Rattle.layout.specs.Limits.{TEXTS, STATEMENTS, VALUES, WORDS, NAMEWORDS, TEXTS-AT, HEADS-AT, NAMES-AT, VALUES-AT}
 use Rattle.layout.specs.Memory.{textCount, statementCount, valueCount}
-use Rattle.layout.specs.Damage.{Sized}
+use Rattle.layout.specs.Damage.{Framed}
 use Rattle.pool.specs.declared.gap.Gap.{Gap}
 
 -- ---- the gap of the text at a place
@@ -69,7 +69,7 @@ takenOut place m =
 -- ---- what the functions require: the gap lies within the totals
 
 pub record Spanned (s : Gap) (m : List ℕ) : Type 0 where
-  pub sizes : Sized m
+  pub sizes : Framed m
   pub statements : s .before + s .inside ≤ statementCount m
   pub values : valuesBefore s m + valuesInside s m ≤ valueCount m
 

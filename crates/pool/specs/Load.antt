@@ -12,7 +12,7 @@ use Rattle.text.specs.Faults.{refusalOf}
 use Rattle.text.specs.Statements.{Event, statements, openings, givings}
 use Rattle.text.specs.Text.{Read, fine, refused, readText, added}
 use Rattle.layout.specs.State.{Text, Pool}
-use Rattle.layout.specs.Limits.{room, LONGEST}
+use Rattle.layout.specs.Limits.{room, LONGEST-LOAD}
 use Rattle.layout.specs.Memory.{decode, put}
 use Rattle.layout.specs.Damage.{sound}
 use Rattle.pool.specs.Replies.{done, refusing}
@@ -42,7 +42,7 @@ admitted (refused q line place) room = Refused (refusalOf q) line
 unfoldable pub loadAnswer : (label : ℕ) (bytes : List ℕ) → Pool → Reply
 loadAnswer label bytes s =
     if held label s then refusing LabelHeld
-    else (if ltb LONGEST (length bytes) then refusing TextTooLong
+    else (if ltb LONGEST-LOAD (length bytes) then refusing TextTooLong
     else admitted (readText bytes) (room (with s (textOf label bytes))))
 
 unfoldable pub loadReply : (label : ℕ) (bytes m : List ℕ) → Reply
@@ -63,7 +63,7 @@ pub record Accepts (label : ℕ) (bytes : List ℕ) (statements values : ℕ) (m
   pub undamaged : sound m ≡ true
   pub events : List Event
   pub reads : readText bytes ≡ fine events
-  pub long : length bytes ≤ LONGEST
+  pub long : length bytes ≤ LONGEST-LOAD
   pub opens : openings events ≡ statements
   pub gives : givings events ≡ values
   pub roomy : room (with (decode m) (textOf label bytes)) ≡ true

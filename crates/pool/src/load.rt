@@ -25,11 +25,11 @@ ghost use lib.ListN.{length};
 ghost use Rattle.layout.specs.State.{Text, flat, valuesOf};
 ghost use Rattle.layout.specs.Limits.{room};
 ghost use Rattle.layout.specs.Memory.{decode, put};
-ghost use Rattle.layout.specs.Damage.{Sized, sound};
+ghost use Rattle.layout.specs.Damage.{Framed, sound};
 ghost use Rattle.pool.specs.Load.{Loads, held, with, textOf, Accepts};
 
 // The longest text, in bytes.
-const LONGEST: usize = 65536;
+const LONGEST_LOAD: usize = 65536;
 
 // The text is put last, under its label; or it is refused, and nothing is written.
 pub fn load(pool: &mut [u64], label: u32, text: &[u8]) -> Reply
@@ -41,7 +41,7 @@ pub fn load(pool: &mut [u64], label: u32, text: &[u8]) -> Reply
     if is_held(pool, label) {
         return Reply::Refused(Refusal::LabelHeld, 0);
     }
-    if LONGEST < text.len() {
+    if LONGEST_LOAD < text.len() {
         return Reply::Refused(Refusal::TextTooLong, 0);
     }
     let checked = check(text);
@@ -59,7 +59,7 @@ pub fn load(pool: &mut [u64], label: u32, text: &[u8]) -> Reply
 
 // A text is held under the label.
 fn is_held(pool: &[u64], label: u32) -> bool
-    requires { ⌜ Sized (now pool) ⌝ }
+    requires { ⌜ Framed (now pool) ⌝ }
     ensures { λ r. ⌜ r ≡ held label (decode (now (pool .entry))) ⌝ }
 {
     let texts = texts_of(pool);

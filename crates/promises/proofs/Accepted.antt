@@ -11,7 +11,7 @@ use Rattle.plain.specs.Choice.{if_then_else_}
 use Rattle.refusal.specs.declared.Refusal.the-variants.{LabelHeld, TextTooLong, DamagedPool}
 use Rattle.text.specs.Text.{Read, fine, refused, readText}
 use Rattle.layout.specs.State.{Pool}
-use Rattle.layout.specs.Limits.{room, LONGEST}
+use Rattle.layout.specs.Limits.{room, LONGEST-LOAD}
 use Rattle.layout.specs.Memory.{decode}
 use Rattle.layout.specs.Damage.{sound}
 use Rattle.pool.specs.Replies.{done, refusing}
@@ -27,7 +27,7 @@ use Rattle.promises.proofs.Refusals.{accepted-done}
 -- what an accepted load says of the state and the text
 pub record Taken (label : ℕ) (bytes : List ℕ) (s : Pool) : Type 0 where
   pub free : held label s ≡ false
-  pub short : length bytes ≤ LONGEST
+  pub short : length bytes ≤ LONGEST-LOAD
   pub fits : room (with s (textOf label bytes)) ≡ true
   pub reads : done (admitted (readText bytes) true) ≡ true
 
@@ -41,15 +41,15 @@ module _ (label : ℕ) (bytes : List ℕ) (s : Pool) where
   abbrev measured : Bool → Reply
   measured b = if b then refusing TextTooLong else admitted (readText bytes) (room (with s (textOf label bytes)))
 
-  by-length : (b : Bool) → ltb LONGEST (length bytes) ≡ b → held label s ≡ false → done (measured b) ≡ true → Taken label bytes s
+  by-length : (b : Bool) → ltb LONGEST-LOAD (length bytes) ≡ b → held label s ≡ false → done (measured b) ≡ true → Taken label bytes s
   by-length true e f h = absurd (true≢false (sym h))
   by-length false e f h =
       let p = by-room (readText bytes) (room (with s (textOf label bytes))) h in
-      record { free = f; short = ltb-false LONGEST (length bytes) e; fits = p .0; reads = p .1 }
+      record { free = f; short = ltb-false LONGEST-LOAD (length bytes) e; fits = p .0; reads = p .1 }
 
-  by-label : (b : Bool) → held label s ≡ b → done (if b then refusing LabelHeld else measured (ltb LONGEST (length bytes))) ≡ true → Taken label bytes s
+  by-label : (b : Bool) → held label s ≡ b → done (if b then refusing LabelHeld else measured (ltb LONGEST-LOAD (length bytes))) ≡ true → Taken label bytes s
   by-label true f h = absurd (true≢false (sym h))
-  by-label false f h = by-length (ltb LONGEST (length bytes)) refl f h
+  by-label false f h = by-length (ltb LONGEST-LOAD (length bytes)) refl f h
 
   pub taken-done : done (loadAnswer label bytes s) ≡ true → Taken label bytes s
   unfolding loadAnswer
@@ -57,7 +57,7 @@ module _ (label : ℕ) (bytes : List ℕ) (s : Pool) where
 
   pub done-taken : Taken label bytes s → loadAnswer label bytes s ≡ Done
   unfolding loadAnswer
-  done-taken t = rw (t .free, le-ltb LONGEST (length bytes) (t .short), t .fits) (done-only (readText bytes) (t .reads))
+  done-taken t = rw (t .free, le-ltb LONGEST-LOAD (length bytes) (t .short), t .fits) (done-only (readText bytes) (t .reads))
     where
       done-only : (r : Read) → done (admitted r true) ≡ true → admitted r true ≡ Done
       done-only (fine es) e = refl

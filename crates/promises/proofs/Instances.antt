@@ -6,7 +6,7 @@ use mathlib.Core.List.{List, [], _∷_}
 use lib.Dec.{eqb, lit<, lit≤}
 use lib.Ieee.{Float}
 use lib.ListN.{length, replicate}
-use Rattle.plain.specs.Doubles.{printed}
+use Rattle.plain.specs.Doubles.{printed, nought}
 use Rattle.rotation.specs.Epochs.{inReach}
 use Rattle.rotation.specs.Codes.{systemOf}
 use Rattle.rotation.specs.Table.{straight, minus, missing, rowOf, sizeOf}
@@ -22,7 +22,7 @@ use Rattle.layout.specs.Damage.{sound, allNamed}
 use Rattle.pool.specs.Load.{textOf}
 use Rattle.promises.specs.Calls as C
 use Rattle.promises.specs.Calls.{leaves}
-use Rattle.promises.specs.Marked.{nought, bits}
+use Rattle.promises.specs.Marked.{bits}
 use Rattle.promises.specs.Demands.{Admissible, HasRow}
 use Rattle.promises.proofs.Computing.{computing, loading, evaluating}
 use Rattle.promises.proofs.Steps.{step, Is, leaves-is}

@@ -16,7 +16,7 @@ use Rattle.rotation.specs.Builtin.{bySystem, builtinOrientation, builtinRadii}
 use Rattle.rotation.specs.declared.code.System.{System}
 use Rattle.rotation.specs.declared.code.System.the-variants.{Of, Nowhere}
 use Rattle.rotation.specs.declared.table.Row.the-variants.{NoRow}
-use Rattle.layout.specs.Limits.{LONGEST}
+use Rattle.layout.specs.Limits.{LONGEST-LOAD}
 use Rattle.layout.specs.Memory.{decode}
 use Rattle.layout.specs.Damage.{sound}
 use Rattle.variables.specs.Variables.{variable, present}
@@ -51,9 +51,9 @@ unfolding asked loadReply loadAnswer
 loads label bytes m e =
     record {
       labelHeld = λ h. simp (e, h);
-      tooLong = λ h l. simp (e, h, lt-ltb LONGEST (length bytes) l);
-      faulty = λ fault n place h l r. (simp (e, h, le-ltb LONGEST (length bytes) l, r), simp (e, h, le-ltb LONGEST (length bytes) l, r));
-      noRoom = λ es h l r f. simp (e, h, le-ltb LONGEST (length bytes) l, r, f);
+      tooLong = λ h l. simp (e, h, lt-ltb LONGEST-LOAD (length bytes) l);
+      faulty = λ fault n place h l r. (simp (e, h, le-ltb LONGEST-LOAD (length bytes) l, r), simp (e, h, le-ltb LONGEST-LOAD (length bytes) l, r));
+      noRoom = λ es h l r f. simp (e, h, le-ltb LONGEST-LOAD (length bytes) l, r, f);
     }
 
 fetches : (name : List ℕ) (buffer : List Float) (m : List ℕ) → sound m ≡ true → FetchOrder library name buffer m

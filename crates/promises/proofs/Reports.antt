@@ -19,7 +19,7 @@ use Rattle.text.specs.Text.{Read, fine, refused, readText}
 use Rattle.text.specs.declared.faults.Fault.{Fault}
 use Rattle.text.specs.declared.faults.Fault.the-variants as F
 use Rattle.text.proofs.FirstFault.{number-within}
-use Rattle.layout.specs.Limits.{room, LONGEST}
+use Rattle.layout.specs.Limits.{room, LONGEST-LOAD}
 use Rattle.layout.specs.Memory.{decode}
 use Rattle.layout.specs.Damage.{sized, sound}
 use Rattle.pool.specs.Replies.{replyNumber, replyLine, refusing}
@@ -71,7 +71,7 @@ unfolding loadReply loadAnswer
 load-lined label bytes m =
     let t = admitted-lined (readText bytes) (room (with (decode m) (textOf label bytes))) in
     either-lined (sound m)
-    (either-lined (held label (decode m)) (refusing-lined Q.LabelHeld) (either-lined (ltb LONGEST (length bytes)) (refusing-lined Q.TextTooLong) t))
+    (either-lined (held label (decode m)) (refusing-lined Q.LabelHeld) (either-lined (ltb LONGEST-LOAD (length bytes)) (refusing-lined Q.TextTooLong) t))
     (refusing-lined Q.DamagedPool)
 
 empty-lined : (m : List ℕ) → Lined (emptyReply m)
@@ -123,9 +123,9 @@ module _ (label : ℕ) (bytes m : List ℕ) (q : Refusal) (n : ℕ) (w : within 
   by-length true e = other Q.TextTooLong refl e
   by-length false e = by-reading (readText bytes) refl (room (with (decode m) (textOf label bytes))) e
 
-  by-label : (b : Bool) → (if b then refusing Q.LabelHeld else measured (ltb LONGEST (length bytes))) ≡ R.Refused q n → Faulty bytes q n
+  by-label : (b : Bool) → (if b then refusing Q.LabelHeld else measured (ltb LONGEST-LOAD (length bytes))) ≡ R.Refused q n → Faulty bytes q n
   by-label true e = other Q.LabelHeld refl e
-  by-label false e = by-length (ltb LONGEST (length bytes)) e
+  by-label false e = by-length (ltb LONGEST-LOAD (length bytes)) e
 
   by-damage : (b : Bool) → (if b then loadAnswer label bytes (decode m) else refusing Q.DamagedPool) ≡ R.Refused q n → Faulty bytes q n
   unfolding loadAnswer

@@ -13,7 +13,7 @@ use Rattle.plain.proofs.Tests.{both, first-then}
 use Rattle.layout.specs.State.{Pool}
 use Rattle.layout.specs.Limits.{WORDS}
 use Rattle.layout.specs.Memory.{decode}
-use Rattle.layout.specs.Damage.{sized, limited, labelled, named, operated, counted, grouped, bounded, sound}
+use Rattle.layout.specs.Damage.{sized, limited, labelled, named, operated, summed, grouped, bounded, sound}
 use Rattle.pool.specs.Replies.{refusing}
 use Rattle.pool.specs.Empty.{emptyReply, clearReply}
 use Rattle.pool.specs.Load.{held, loadAnswer, loadReply}
@@ -45,7 +45,7 @@ says (C.radii S.Pool code) s = C.measured (radiiFrom s code)
 pub sound-sized : (m : List ℕ) → sound m ≡ true → sized m ≡ true
 unfolding sound
 sound-sized m e =
-    both (sized m) (limited m) (first-then (sized m && limited m) (labelled m && named m && operated m && counted m && grouped m && bounded m) e .0) .0
+    both (sized m) (limited m) (first-then (sized m && limited m) (labelled m && named m && operated m && summed m && grouped m && bounded m) e .0) .0
 
 pub sound-size : (m : List ℕ) → sound m ≡ true → length m ≡ WORDS
 sound-size m e = eqb-true (length m) WORDS (sound-sized m e)

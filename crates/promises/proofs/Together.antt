@@ -9,7 +9,7 @@ use Rattle.plain.specs.Choice.{if_then_else_}
 use Rattle.text.specs.Text.{readText}
 use Rattle.plain.proofs.Each.{Each, each-append, each-right}
 use Rattle.layout.specs.State.{Pool, program, flat}
-use Rattle.layout.specs.Limits.{room, LONGEST}
+use Rattle.layout.specs.Limits.{room, LONGEST-LOAD}
 use Rattle.pool.specs.Replies.{done}
 use Rattle.pool.specs.Load.{textOf, with, admitted}
 use Rattle.pool.specs.Remove.{without}
@@ -20,7 +20,7 @@ use Rattle.promises.proofs.Labels.{Apart, apart-with, apart-without, he
 
 -- the rules admit the bytes, and they are not too many
 pub record Readable (bytes : List ℕ) : Type 0 where
-  pub short : length bytes ≤ LONGEST
+  pub short : length bytes ≤ LONGEST-LOAD
   pub reads : done (admitted (readText bytes) true) ≡ true
 
 abbrev pub IsReadable : Loaded → Type 0

@@ -8,14 +8,14 @@ use mathlib.Core.List.{List, [], _∷_}
 use borrow.Author.Tests.{eq-eqb, le-ltb}
 use lib.Dec.{eqb}
 use lib.ListN.{length}
-use Rattle.plain.specs.Doubles.{printed}
+use Rattle.plain.specs.Doubles.{printed, nought}
 use Rattle.rotation.specs.declared.matrix.Orientation.{Orientation}
 use Rattle.rotation.specs.declared.table.Axes.{Axes}
 use Rattle.text.specs.Faults.{refusalOf}
 use Rattle.layout.specs.Memory.{decode}
 use Rattle.plain.proofs.Tests.{both}
 use Rattle.pool.specs.Replies.{countsTexts}
-use Rattle.layout.specs.Limits.{LONGEST}
+use Rattle.layout.specs.Limits.{LONGEST-LOAD}
 use Rattle.pool.specs.Load.{loadAnswer, loadReply}
 use Rattle.pool.specs.Totals.{counts}
 use Rattle.pool.specs.declared.reply.Counts.{Counts}
@@ -26,7 +26,7 @@ use Rattle.promises.specs.Calls.{remove, totals, replied, counted, Build
 use Rattle.promises.specs.Demands.{Contracts, Demand2, NeverBlended}
 use Rattle.promises.specs.Histories.{Loaded, loading, removing, after, still, Fresh, text}
 use Rattle.promises.specs.Demand3.{Demand3}
-use Rattle.promises.specs.Marked.{nought, bits}
+use Rattle.promises.specs.Marked.{bits}
 use Rattle.promises.specs.Useless.{RefusesEveryText, RefusesEveryEpoch, ConstantOrientation, NeverTurns, ConstantRadii, RefusesEverySecond, Blends, StoresNothing, HeedsFirstOnly, OnlySaysYes, OtherTotals, InventedLine, Caught}
 use Rattle.promises.proofs.Instances.{noughts, empty-text, holding, holding-one, second-text, aDay, earthAt0, earthAfterADay, sunAt0, earth-given, later-given, sun-given, earth-ra, later-ra, sun-ra, mercury, pluto, mercury-given, pluto-given, mercury-a, pluto-a}
 
@@ -134,7 +134,7 @@ invented-line b d u =
     let c = d .load (u .label) (u .bytes) (u .m) in
     let e : replied (Refused (u .q) (u .told)) ≡ replied (loadReply (u .label) (u .bytes) (u .m)) = sym (u .tells) ∙ c .is ∙ ap replied (c .contract .reply) in
     let f : loadReply (u .label) (u .bytes) (u .m) ≡ Refused (refusalOf (u .fault)) (u .line) =
-    rw (u .undamaged, u .free, le-ltb LONGEST (length (u .bytes)) (u .short), u .faulty) in
+    rw (u .undamaged, u .free, le-ltb LONGEST-LOAD (length (u .bytes)) (u .short), u .faulty) in
     u .invented cc
 
 pub caught : Caught

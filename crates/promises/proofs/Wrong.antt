@@ -7,6 +7,7 @@ use mathlib.Core.List.{List, [], _∷_}
 use lib.Ieee.{Float, nan, isNan}
 use lib.ListN.{getD, replicate}
 use Rattle.plain.specs.Ascii.{ascii}
+use Rattle.plain.specs.Doubles.{nought}
 use Rattle.refusal.specs.declared.Refusal.the-variants as Q
 use Rattle.rotation.specs.Table.{sizeOf}
 use Rattle.rotation.specs.Builtin.{builtinRadii}
@@ -33,7 +34,6 @@ use Rattle.pool.specs.declared.reply.Counts.the-variants as C
 use Rattle.globe.specs.Orientation.{Orients, orientationReply}
 use Rattle.globe.specs.Radii.{Measures, radiiReply}
 use Rattle.globe.specs.declared.source.Source.the-variants as S
-use Rattle.promises.specs.Marked.{nought}
 use Rattle.promises.proofs.Computing.{loading, evaluating}
 use Rattle.promises.proofs.Instances.{noughts, noughts-sound, noughts-empty}
 
@@ -45,8 +45,8 @@ abbrev first : List ℕ → ℕ
 first m = getD m 0 0
 
 -- a memory whose first total is 1
-abbrev one : List ℕ
-one = 1 ∷ replicate 5650 0
+abbrev oneText : List ℕ
+oneText = 1 ∷ replicate 5650 0
 
 -- ---- make empty: a memory of the fixed size is not refused; the totals are written
 
@@ -54,7 +54,7 @@ pub empty-refused : (after : List ℕ) → Empties noughts (refusing Q.DamagedPo
 unfolding emptyReply noughts
 empty-refused after c = never cc
 
-pub empty-unwritten : Empties one Done one → ⊥
+pub empty-unwritten : Empties oneText Done oneText → ⊥
 unfolding emptyReply put over program flat
 empty-unwritten c = never (sym (ap first (c .memory)))
 

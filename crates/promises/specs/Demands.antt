@@ -33,7 +33,7 @@ use Rattle.text.specs.Statements.{Event}
 use Rattle.text.specs.Text.{fine, refused, readText}
 use Rattle.text.specs.declared.faults.Fault.{Fault}
 use Rattle.layout.specs.State.{Pool}
-use Rattle.layout.specs.Limits.{room, LONGEST}
+use Rattle.layout.specs.Limits.{room, LONGEST-LOAD}
 use Rattle.layout.specs.Memory.{decode}
 use Rattle.layout.specs.Damage.{sound}
 use Rattle.pool.specs.Empty.{Empties, Clears}
@@ -143,7 +143,7 @@ NoDamage b = (c : Call) (m : List ℕ) → sound m ≡ true → sound (b .memory
 pub record Admissible (label : ℕ) (bytes m : List ℕ) : Type 0 where
   pub undamaged : sound m ≡ true
   pub free : held label (decode m) ≡ false
-  pub short : length bytes ≤ LONGEST
+  pub short : length bytes ≤ LONGEST-LOAD
   pub events : List Event
   pub admitted : readText bytes ≡ fine events
   pub roomy : room (with (decode m) (textOf label bytes)) ≡ true

@@ -9,7 +9,7 @@ use lib.Ieee.{Float, binary64, toBits, ofBits, neg}
 use lib.ListN.{length}
 use Rattle.plain.specs.Ascii.{ascii}
 use Rattle.plain.specs.Choice.{if_then_else_}
-use Rattle.plain.specs.Doubles.{printed}
+use Rattle.plain.specs.Doubles.{printed, nought, one}
 use Rattle.plain.specs.Lists.{equal}
 use Rattle.refusal.specs.Numbers.{numberOf}
 use Rattle.angle.specs.Wrap.{wrapped}
@@ -45,9 +45,6 @@ same x y = eqb (bits x) (bits y)
 abbrev pub next : Float → Float
 next x = ofBits binary64 (bits x + 1)
 
-abbrev pub nought : Float
-nought = printed 0 0
-
 -- a value's bytes are read, as a double of these bits
 abbrev pub hasBits : ℕ → Reading → Bool
 hasBits n (D.Number x) = eqb (bits x) n
@@ -72,9 +69,6 @@ loaded label bytes s = if done (loadAnswer label bytes s) then with s (textOf la
 -- the variable X of a pool has these values
 abbrev pub x-is : List Float → Pool → Bool
 x-is xs s = equal (variable (ascii "X") s) (map bits xs)
-
-abbrev pub one : Float
-one = printed 1 0
 
 abbrev pub two : Float
 two = printed 2 0

@@ -21,7 +21,7 @@ use Rattle.text.specs.Faults.{refusalOf}
 use Rattle.text.specs.Statements.{Event}
 use Rattle.text.specs.Text.{fine, refused, readText}
 use Rattle.text.specs.declared.faults.Fault.{Fault}
-use Rattle.layout.specs.Limits.{room, LONGEST}
+use Rattle.layout.specs.Limits.{room, LONGEST-LOAD}
 use Rattle.layout.specs.Memory.{decode}
 use Rattle.layout.specs.Damage.{sized, sound}
 use Rattle.variables.specs.Variables.{present}
@@ -54,12 +54,12 @@ usesPool (C.radii S.Builtin code) = false
 
 pub record LoadOrder (b : Build) (label : ℕ) (bytes m : List ℕ) : Type 0 where
   pub labelHeld : held label (decode m) ≡ true → Refuses b (C.load label bytes) m Q.LabelHeld
-  pub tooLong : held label (decode m) ≡ false → LONGEST < length bytes → Refuses b (C.load label bytes) m Q.TextTooLong
+  pub tooLong : held label (decode m) ≡ false → LONGEST-LOAD < length bytes → Refuses b (C.load label bytes) m Q.TextTooLong
   pub faulty :
-      (fault : Fault) (n place : ℕ) → held label (decode m) ≡ false → length bytes ≤ LONGEST → readText bytes ≡ refused fault n place
+      (fault : Fault) (n place : ℕ) → held label (decode m) ≡ false → length bytes ≤ LONGEST-LOAD → readText bytes ≡ refused fault n place
       → Refuses b (C.load label bytes) m (refusalOf fault) × (line (b .answer (C.load label bytes) m) ≡ n)
   pub noRoom :
-      (es : List Event) → held label (decode m) ≡ false → length bytes ≤ LONGEST → readText bytes ≡ fine es
+      (es : List Event) → held label (decode m) ≡ false → length bytes ≤ LONGEST-LOAD → readText bytes ≡ fine es
       → room (with (decode m) (textOf label bytes)) ≡ false → Refuses b (C.load label bytes) m Q.NoRoom
 
 pub record FetchOrder (b : Build) (name : List ℕ) (buffer : List Float) (m : List ℕ) : Type 0 where

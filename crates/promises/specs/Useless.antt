@@ -22,7 +22,7 @@ use Rattle.text.specs.declared.faults.Fault.{Fault}
 use Rattle.layout.specs.State.{Pool}
 use Rattle.layout.specs.Memory.{decode}
 use Rattle.layout.specs.Damage.{sound}
-use Rattle.layout.specs.Limits.{LONGEST}
+use Rattle.layout.specs.Limits.{LONGEST-LOAD}
 use Rattle.pool.specs.Load.{held}
 use Rattle.pool.specs.Totals.{counts}
 use Rattle.pool.specs.declared.reply.Counts.{Counts}
@@ -146,7 +146,7 @@ pub record InventedLine (b : Build) : Type 0 where
   pub m : List ℕ
   pub undamaged : sound m ≡ true
   pub free : held label (decode m) ≡ false
-  pub short : length bytes ≤ LONGEST
+  pub short : length bytes ≤ LONGEST-LOAD
   pub fault : Fault
   pub line : ℕ
   pub place : ℕ

@@ -15,8 +15,8 @@ abbrev pub starts : Elements → Days → Centuries → Sums
 starts e d t = record { ra = byCentury (e .ra) t; dec = byCentury (e .dec) t; w = byDay (e .pm) d }
 
 -- RA, DEC and W at an epoch, before any is wrapped, with the system's angles and the coefficients that RA, DEC and PM have
-abbrev pub summed : Elements → (epoch : Float) → (angles ra dec pm : List Float) → Sums
-summed e epoch angles ra dec pm =
+abbrev pub unwrapped : Elements → (epoch : Float) → (angles ra dec pm : List Float) → Sums
+unwrapped e epoch angles ra dec pm =
     let d = days epoch in
     let t = centuries d in
     nutatedAll t angles ra dec pm (starts e d t)
@@ -24,5 +24,5 @@ summed e epoch angles ra dec pm =
 unfoldable pub evaluated : Elements → (epoch : Float) → (angles ra dec pm : List Float) → Orientation
 unfolding days centuries nutatedAll oriented
 evaluated e epoch angles ra dec pm =
-    let sums = summed e epoch angles ra dec pm in
+    let sums = unwrapped e epoch angles ra dec pm in
     oriented (sums .ra) (sums .dec) (sums .w)

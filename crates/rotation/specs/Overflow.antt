@@ -14,7 +14,7 @@ use Rattle.angle.specs.Finite.{FiniteWrap, FiniteSine}
 use Rattle.angle.specs.declared.sine.SineCosine.{SineCosine}
 use Rattle.rotation.specs.Epochs.{days, centuries}
 use Rattle.rotation.specs.Elements.{sine, cosine, angle, nutated}
-use Rattle.rotation.specs.Evaluation.{starts, summed, evaluated}
+use Rattle.rotation.specs.Evaluation.{starts, unwrapped, evaluated}
 use Rattle.rotation.specs.Finite.{Finite}
 use Rattle.rotation.specs.declared.epoch.Days.{Days}
 use Rattle.rotation.specs.declared.epoch.Centuries.{Centuries}
@@ -67,7 +67,7 @@ pub record FiniteProducts (a d w : SineCosine) : Type 0 where
   pub cw-sd-ca : finite (cosine w ⊗ sine d ⊗ cosine a) ≡ true
   pub cw-sd-sa : finite (cosine w ⊗ sine d ⊗ sine a) ≡ true
 
--- RA, DEC and W as they are summed, wrapped, and their matrix
+-- RA, DEC and W as they are unwrapped, wrapped, and their matrix
 pub record FiniteMatrix (s : Sums) : Type 0 where
   pub RA : finite (s .ra) ≡ true
   pub DEC : finite (s .dec) ≡ true
@@ -81,5 +81,5 @@ pub record FiniteMatrix (s : Sums) : Type 0 where
 
 pub record NeverOverflows (e : Elements) (epoch : Float) (angles ra dec pm : List Float) : Type 0 where
   pub sums : FiniteSums e (days epoch) (centuries (days epoch)) angles ra dec pm
-  pub matrix : FiniteMatrix (summed e epoch angles ra dec pm)
+  pub matrix : FiniteMatrix (unwrapped e epoch angles ra dec pm)
   pub answer : Finite (evaluated e epoch angles ra dec pm)

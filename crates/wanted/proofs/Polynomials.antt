@@ -7,20 +7,20 @@ use native.Mathlib.Omega.{arith}
 use borrow.Author.Tests.{lt-leb, le-leb}
 use lib.Ieee.{Float, nan}
 use lib.ListN.{length, getD}
-use Rattle.plain.specs.Doubles.{printed}
+use Rattle.plain.specs.Doubles.{nought}
 use Rattle.rotation.specs.declared.elements.Polynomial.{Polynomial}
 use Rattle.words.specs.Over.{over}
 use Rattle.variables.specs.declared.variable.Found.{Found}
 use Rattle.variables.specs.declared.variable.Found.the-variants as F
 use Rattle.wanted.specs.Elements.{polynomial}
-use Rattle.wanted.specs.Steps.{Looks, valuesOf, one}
+use Rattle.wanted.specs.Steps.{Looks, valuesOf, presence}
 use Rattle.wanted.specs.declared.elements.Values.{Values}
 use Rattle.wanted.specs.declared.elements.Values.the-variants as P
 use Rattle.wanted.proofs.Found.{counted, crowded, absent}
 
 -- three zeros
 abbrev pub zeros : List Float
-zeros = printed 0 0 ∷ printed 0 0 ∷ printed 0 0 ∷ []
+zeros = nought ∷ nought ∷ nought ∷ []
 
 -- the first three values of a buffer
 abbrev pub firstThree : List Float → Polynomial
@@ -55,7 +55,7 @@ module _ {there : Bool} {xs before after : List Float} {r : Found} (l : Looks th
   not-there e = rw (absent l e)
 
 -- a variable counts as one at most
-pub one-most : (v : Values) → one v ≤ 1
-one-most (P.Few p) = omega arith
-one-most P.Miscounted = omega arith
-one-most P.Absent = omega arith
+pub presence-most : (v : Values) → presence v ≤ 1
+presence-most (P.Few p) = omega arith
+presence-most P.Miscounted = omega arith
+presence-most P.Absent = omega arith

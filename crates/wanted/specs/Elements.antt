@@ -7,7 +7,7 @@ use lib.Ieee.{Float}
 use lib.ListN.{length, getD}
 use Rattle.plain.specs.Choice.{if_then_else_}
 use Rattle.plain.specs.Bytes.{within}
-use Rattle.plain.specs.Doubles.{printed}
+use Rattle.plain.specs.Doubles.{nought}
 use Rattle.rotation.specs.declared.elements.Polynomial.{Polynomial}
 use Rattle.rotation.specs.declared.elements.Elements.{Elements}
 use Rattle.layout.specs.State.{Pool}
@@ -38,7 +38,7 @@ abbrev pub fewValues : List Float → Bool
 fewValues xs = within 1 3 (length xs)
 
 abbrev pub polynomial : List Float → Polynomial
-polynomial xs = record { c0 = getD xs 0 (printed 0 0); c1 = getD xs 1 (printed 0 0); c2 = getD xs 2 (printed 0 0) }
+polynomial xs = record { c0 = getD xs 0 nought; c1 = getD xs 1 nought; c2 = getD xs 2 nought }
 
 abbrev pub elements : Pool → ℕ → Elements
 elements s n =

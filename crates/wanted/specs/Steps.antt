@@ -62,11 +62,11 @@ abbrev pub valuesOf : (there : Bool) → List Float → Values
 valuesOf true xs = if fewValues xs then P.Few (polynomial xs) else P.Miscounted
 valuesOf false xs = P.Absent
 
--- how many of the three are there
-abbrev pub one : Values → ℕ
-one (P.Few p) = 1
-one P.Miscounted = 1
-one P.Absent = 0
+-- 1 where the variable is there, and 0 where it is not
+abbrev pub presence : Values → ℕ
+presence (P.Few p) = 1
+presence P.Miscounted = 1
+presence P.Absent = 0
 
 -- the three together
 abbrev pub baseOf : (ra dec pm : Values) → Base

@@ -10,7 +10,7 @@ ghost use mathlib.Core.Path.{_≡_};
 ghost use Prim.Native.Nat.{_+_};
 ghost use Rattle.layout.specs.Memory.{decode};
 ghost use Rattle.wanted.specs.Elements.{there, list};
-ghost use Rattle.wanted.specs.Steps.{Askable, LooksFor, valuesOf, one, baseOf};
+ghost use Rattle.wanted.specs.Steps.{Askable, LooksFor, valuesOf, presence, baseOf};
 
 // A variable of pole or meridian: "1 to 3 values each".
 pub enum Values {
@@ -60,7 +60,7 @@ pub fn polynomial_of(pool: &[u64], code: u32, wanted: Wanted) -> Values
 
 // How many of the three are there.
 pub fn count_held(ra: Values, dec: Values, pm: Values) -> usize
-    ensures { λ r. ⌜ r ≡ one ra + one dec + one pm ⌝ }
+    ensures { λ r. ⌜ r ≡ presence ra + presence dec + presence pm ⌝ }
 {
     count_one(ra) + count_one(dec) + count_one(pm)
 }
@@ -90,7 +90,7 @@ pub fn assemble(ra: Values, dec: Values, pm: Values) -> Base
 
 // 1 where the variable is there, and 0 where it is not.
 fn count_one(values: Values) -> usize
-    ensures { λ r. ⌜ r ≡ one values ⌝ }
+    ensures { λ r. ⌜ r ≡ presence values ⌝ }
 {
     match values {
         Values::Few(_) => 1,

@@ -13,7 +13,7 @@ use Rattle.text.specs.declared.line.Reader.{Reader}
 use Rattle.text.specs.declared.line.Reader.the-variants as R
 use Rattle.text.specs.declared.lines.Cut.{Cut}
 use Rattle.text.proofs.Events.{openings-append, givings-append}
-use Rattle.layout.specs.Limits.{LONGEST}
+use Rattle.layout.specs.Limits.{LONGEST-LOAD}
 use Rattle.writing.specs.Writing.{Page, page, writtenOn}
 use Rattle.writing.specs.Pens.{Room, Roomy, Admits, Writes}
 use Rattle.writing.specs.declared.pen.Pen.{Pen}
@@ -81,7 +81,7 @@ module _ (text : List ℕ) (final : Page) (long at : ℕ) (m : List ℕ) (pen : 
     unfolding line
     line-long = omega (arith, length-take-le (c .end - at) (drop at text) (omega (arith, length-drop at text, cuts .ends, cuts .stays)), cuts .ends, cuts .stays)
 
-    pub roomy : length text ≤ LONGEST → Roomy pen (take (c .end - at) (drop at text))
+    pub roomy : length text ≤ LONGEST-LOAD → Roomy pen (take (c .end - at) (drop at text))
     unfolding line
     roomy h =
         let d = f .room in

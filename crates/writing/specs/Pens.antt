@@ -18,7 +18,7 @@ use Rattle.text.specs.declared.values.Stop.{Stop}
 use Rattle.text.specs.declared.values.Stop.the-variants as S
 use Rattle.words.specs.Over.{over}
 use Rattle.words.specs.Halves.{HALF}
-use Rattle.layout.specs.Limits.{NAMEWORDS, WORDS, room, LONGEST}
+use Rattle.layout.specs.Limits.{NAMEWORDS, WORDS, room, LONGEST-LOAD}
 use Rattle.writing.specs.Writing.{Page, page, bits, givenOn, writtenOn}
 use Rattle.writing.specs.declared.pen.Pen.{Pen}
 use Rattle.writing.specs.declared.pen.Turn.{Turn}
@@ -43,14 +43,14 @@ pub record Tells (pen : Pen) (n : ℕ) : Type 0 where
   pub some : 1 ≤ pen .heads
   pub values : pen .values ≤ WORDS
   pub head : pen .head ≤ HALF + WORDS
-  pub few : n ≤ LONGEST
+  pub few : n ≤ LONGEST-LOAD
 
 -- a line of a text is written, whose statement is opened already
 pub record Ready (pen : Pen) (line : List ℕ) : Type 0 where
   pub some : 1 ≤ pen .heads
   pub values : pen .values ≤ WORDS
   pub head : pen .head ≤ HALF + WORDS
-  pub long : length line ≤ LONGEST
+  pub long : length line ≤ LONGEST-LOAD
 
 -- a line of a text is written, that may open a statement
 pub record Roomy (pen : Pen) (line : List ℕ) : Type 0 where
@@ -62,7 +62,7 @@ pub record Roomy (pen : Pen) (line : List ℕ) : Type 0 where
 pub record Admits (text : List ℕ) (pen : Pen) : Type 0 where
   pub events : List Event
   pub reads : readText text ≡ fine events
-  pub long : length text ≤ LONGEST
+  pub long : length text ≤ LONGEST-LOAD
   pub room : Room pen (openings events) (givings events)
 
 -- ---- what it leaves

@@ -15,7 +15,7 @@ ghost use mathlib.Core.Path.{_≡_};
 ghost use Prim.Native.Nat.{_≤_};
 ghost use lib.ListN.{length};
 ghost use Rattle.text.specs.Values.{listed, givenAt};
-ghost use Rattle.layout.specs.Limits.{WORDS, LONGEST};
+ghost use Rattle.layout.specs.Limits.{WORDS, LONGEST-LOAD};
 ghost use Rattle.writing.specs.Writing.{page};
 ghost use Rattle.writing.specs.Pens.{Ready, Stores, afterList, Gives};
 
@@ -79,7 +79,7 @@ fn after_list(filled: bool, count: usize, stop: Stop) -> Reader
 
 // A list's numbers from a place on are stored, and counted: no more of them than the line has bytes.
 fn store_items(m: &mut [u64], at: usize, line: &[u8], from: usize) -> Counted
-    requires { ⌜ (at ≤ WORDS) × (length (now line) ≤ LONGEST) ⌝ }
+    requires { ⌜ (at ≤ WORDS) × (length (now line) ≤ LONGEST-LOAD) ⌝ }
     ensures { λ r. ⌜ Stores (now (line .entry)) from at (now (m .entry)) r (now (m .exit)) ⌝ }
 {
     let mut i = from;

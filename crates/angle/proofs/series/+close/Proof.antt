@@ -10,8 +10,8 @@ use lib.ListN.{length, drop, getD}
 use lib.Seq.{drop-length, drop-cons}
 use borrow.Fn.Kinds.{In}
 use borrow.Fn.PlainCycle.{Measures, is, falls, and}
-use Rattle.plain.specs.Doubles.{_⊖_, _⊗_, _⊘_, printed}
-use Rattle.angle.specs.Series.{one, closing, divisorsOf, last}
+use Rattle.plain.specs.Doubles.{_⊖_, _⊗_, _⊘_, printed, one}
+use Rattle.angle.specs.Series.{closing, divisorsOf, last}
 use Rattle.angle.proofs.series.close.Reads as close
 use Rattle.angle.proofs.series.close.Kinds as close-kinds
 use Rattle.angle.proofs.series.divisor.Reads as divisor

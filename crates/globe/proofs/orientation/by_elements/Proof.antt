@@ -5,7 +5,7 @@ use native.Mathlib.Omega.{arith}
 use borrow.Author.Needs.{needs}
 use Rattle.layout.specs.Memory.{decode}
 use Rattle.wanted.specs.Elements.{there, list}
-use Rattle.wanted.specs.Steps.{valuesOf, one}
+use Rattle.wanted.specs.Steps.{valuesOf, presence}
 use Rattle.wanted.specs.declared.name.Wanted.the-variants as W
 use Rattle.globe.proofs.Ordered.{none-there, some-missing, all-there}
 use Rattle.globe.proofs.orientation.by_elements.Statement.{statement}
@@ -14,9 +14,9 @@ use Rattle.globe.proofs.orientation.by_elements.Tie as tie
 -- the code's number is how many of the three the texts have
 tallied : (c : tie.After-count-held)
     → c .count-held .result
-    ≡ one (valuesOf (there (decode (c .before .before .before .before .before .args .pool .now)) (c .before .before .before .before .before .args .code) W.PoleRa) (list (decode (c .before .before .before .before .before .args .pool .now)) (c .before .before .before .before .before .args .code) W.PoleRa))
-    + one (valuesOf (there (decode (c .before .before .before .before .before .args .pool .now)) (c .before .before .before .before .before .args .code) W.PoleDec) (list (decode (c .before .before .before .before .before .args .pool .now)) (c .before .before .before .before .before .args .code) W.PoleDec))
-    + one (valuesOf (there (decode (c .before .before .before .before .before .args .pool .now)) (c .before .before .before .before .before .args .code) W.Pm) (list (decode (c .before .before .before .before .before .args .pool .now)) (c .before .before .before .before .before .args .code) W.Pm))
+    ≡ presence (valuesOf (there (decode (c .before .before .before .before .before .args .pool .now)) (c .before .before .before .before .before .args .code) W.PoleRa) (list (decode (c .before .before .before .before .before .args .pool .now)) (c .before .before .before .before .before .args .code) W.PoleRa))
+    + presence (valuesOf (there (decode (c .before .before .before .before .before .args .pool .now)) (c .before .before .before .before .before .args .code) W.PoleDec) (list (decode (c .before .before .before .before .before .args .pool .now)) (c .before .before .before .before .before .args .code) W.PoleDec))
+    + presence (valuesOf (there (decode (c .before .before .before .before .before .args .pool .now)) (c .before .before .before .before .before .args .code) W.Pm) (list (decode (c .before .before .before .before .before .args .pool .now)) (c .before .before .before .before .before .args .code) W.Pm))
 tallied c = rw (c .count-held .ensures, c .before .before .before .polynomial-of .ensures, c .before .before .polynomial-of2 .ensures, c .before .polynomial-of3 .ensures)
 
 polynomial-of-requires : tie.Need-polynomial-of-requires

@@ -1,8 +1,8 @@
 -- `axes_face` meets its contract: the three radii, or the number and zeros. Assumes nothing.
 use mathlib.Core.Path.{sym, ap, _∙_}
 use lib.Ieee.{ofBits, round}
-use Rattle.plain.specs.Doubles.{printed}
-use Rattle.globe_c.specs.Faces.{axesFace, nought}
+use Rattle.plain.specs.Doubles.{printed, nought}
+use Rattle.globe_c.specs.Faces.{axesFace}
 use borrow.Author.Needs.{needs}
 use Rattle.globe_c.proofs.face.axes_face.Statement.{statement}
 use Rattle.globe_c.proofs.face.axes_face.Tie as tie

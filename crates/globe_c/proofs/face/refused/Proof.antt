@@ -1,7 +1,7 @@
 -- `refused` meets its contract: the number, and zeros. Assumes nothing.
 use lib.Ieee.{ofBits, round}
-use Rattle.plain.specs.Doubles.{printed}
-use Rattle.globe_c.specs.Faces.{orientedFace, nought}
+use Rattle.plain.specs.Doubles.{printed, nought}
+use Rattle.globe_c.specs.Faces.{orientedFace}
 use borrow.Author.Needs.{needs}
 use Rattle.globe_c.proofs.face.refused.Statement.{statement}
 use Rattle.globe_c.proofs.face.refused.Tie as tie

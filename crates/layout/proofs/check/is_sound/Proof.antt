@@ -8,8 +8,8 @@ use borrow.Author.Needs.{needs}
 use borrow.Author.Tests.{not-true, not-false, eqb-true}
 use lib.ListN.{length}
 use Rattle.layout.specs.Limits.{WORDS}
-use Rattle.layout.specs.Damage.{Sized, sound, sized, limited, labelled, named, operated, counted, grouped, bounded}
-use Rattle.layout.proofs.Sound.{sound-in-order, sized-of, from-limits, from-labels, from-names, from-operators, from-counts, from-groups}
+use Rattle.layout.specs.Damage.{Framed, sound, sized, limited, labelled, named, operated, summed, grouped, bounded}
+use Rattle.layout.proofs.Sound.{sound-in-order, framed-of, from-limits, from-labels, from-names, from-operators, from-counts, from-groups}
 use Rattle.layout.proofs.check.is_sound.Statement.{statement}
 use Rattle.layout.proofs.check.is_sound.Tie as tie
 
@@ -42,7 +42,7 @@ past-operators : (c : tie.Else5) → sound (memory (c .before .before .before .b
 past-operators c = pass (operated (memory (c .before .before .before .before .before .before .before .before .before .before .before))) (from-counts (memory (c .before .before .before .before .before .before .before .before .before .before .before))) (past-names (c .before .before)) (c .before .is-operated .ensures) (not-false _ (c .if5 .left))
 
 past-counts : (c : tie.Else6) → sound (memory (c .before .before .before .before .before .before .before .before .before .before .before .before .before)) ≡ from-groups (memory (c .before .before .before .before .before .before .before .before .before .before .before .before .before))
-past-counts c = pass (counted (memory (c .before .before .before .before .before .before .before .before .before .before .before .before .before))) (from-groups (memory (c .before .before .before .before .before .before .before .before .before .before .before .before .before))) (past-operators (c .before .before)) (c .before .is-counted .ensures) (not-false _ (c .if6 .left))
+past-counts c = pass (summed (memory (c .before .before .before .before .before .before .before .before .before .before .before .before .before))) (from-groups (memory (c .before .before .before .before .before .before .before .before .before .before .before .before .before))) (past-operators (c .before .before)) (c .before .is-summed .ensures) (not-false _ (c .if6 .left))
 
 past-groups : (c : tie.Else7) → sound (memory (c .before .before .before .before .before .before .before .before .before .before .before .before .before .before .before)) ≡ bounded (memory (c .before .before .before .before .before .before .before .before .before .before .before .before .before .before .before))
 past-groups c = pass (grouped (memory (c .before .before .before .before .before .before .before .before .before .before .before .before .before .before .before))) (bounded (memory (c .before .before .before .before .before .before .before .before .before .before .before .before .before .before .before))) (past-counts (c .before .before)) (c .before .is-grouped .ensures) (not-false _ (c .if7 .left))
@@ -64,8 +64,8 @@ is-limited-requires c κs = omega (arith, eqb-true (length (memory (c .before .b
 returns-2 : tie.Need-returns-2
 returns-2 c = fail (limited (memory (c .before .before .before .before .before))) (from-labels (memory (c .before .before .before .before .before))) (past-size (c .before .before)) (c .before .is-limited .ensures) (not-true _ (c .if2 .taken))
 
-sizes : (c : tie.Else2) → Sized (memory (c .before .before .before .before .before))
-sizes c = sized-of _ (size (c .before .before)) (sym (c .before .is-limited .ensures) ∙ not-false _ (c .if2 .left))
+sizes : (c : tie.Else2) → Framed (memory (c .before .before .before .before .before))
+sizes c = framed-of _ (size (c .before .before)) (sym (c .before .is-limited .ensures) ∙ not-false _ (c .if2 .left))
 
 is-labelled-requires : tie.Need-is-labelled-requires
 is-labelled-requires c κs = sizes c
@@ -85,11 +85,11 @@ is-operated-requires c κs = sizes (c .before .before .before .before)
 returns-5 : tie.Need-returns-5
 returns-5 c = fail (operated (memory (c .before .before .before .before .before .before .before .before .before .before .before))) (from-counts (memory (c .before .before .before .before .before .before .before .before .before .before .before))) (past-names (c .before .before)) (c .before .is-operated .ensures) (not-true _ (c .if5 .taken))
 
-is-counted-requires : tie.Need-is-counted-requires
-is-counted-requires c κs = sizes (c .before .before .before .before .before .before)
+is-summed-requires : tie.Need-is-summed-requires
+is-summed-requires c κs = sizes (c .before .before .before .before .before .before)
 
 returns-6 : tie.Need-returns-6
-returns-6 c = fail (counted (memory (c .before .before .before .before .before .before .before .before .before .before .before .before .before))) (from-groups (memory (c .before .before .before .before .before .before .before .before .before .before .before .before .before))) (past-operators (c .before .before)) (c .before .is-counted .ensures) (not-true _ (c .if6 .taken))
+returns-6 c = fail (summed (memory (c .before .before .before .before .before .before .before .before .before .before .before .before .before))) (from-groups (memory (c .before .before .before .before .before .before .before .before .before .before .before .before .before))) (past-operators (c .before .before)) (c .before .is-summed .ensures) (not-true _ (c .if6 .taken))
 
 is-grouped-requires : tie.Need-is-grouped-requires
 is-grouped-requires c κs = sizes (c .before .before .before .before .before .before .before .before)
@@ -117,7 +117,7 @@ is-sound-spec =
     returns-4
     is-operated-requires
     returns-5
-    is-counted-requires
+    is-summed-requires
     returns-6
     is-grouped-requires
     returns-7

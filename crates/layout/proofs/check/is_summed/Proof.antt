@@ -1,4 +1,4 @@
--- `is_counted` meets its contract: the heads are asked, and then summed. Assumes nothing.
+-- `is_summed` meets its contract: the heads are asked, and then summed. Assumes nothing.
 use mathlib.Core.Path.{_≡_, sym, ap, _∙_}
 use mathlib.Core.Bool.{Bool, true, false, _&&_}
 use mathlib.Core.List.{List}
@@ -11,8 +11,8 @@ use lib.ListN.{length}
 use Rattle.words.specs.Halves.{lower, sum, all}
 use Rattle.layout.specs.Memory.{valueCount, headWords}
 use Rattle.layout.proofs.Areas.{length-heads}
-use Rattle.layout.proofs.check.is_counted.Statement.{statement}
-use Rattle.layout.proofs.check.is_counted.Tie as tie
+use Rattle.layout.proofs.check.is_summed.Statement.{statement}
+use Rattle.layout.proofs.check.is_summed.Tie as tie
 
 heads-of-requires : tie.Need-heads-of-requires
 heads-of-requires c κs = search needs
@@ -44,8 +44,8 @@ returns-2 c =
     let s : c .before .sum-lower .result ≡ sum (headWords m) = c .before .sum-lower .ensures ∙ ap sum h in
     λ i. e i && eqb (s i) (valueCount m)
 
-pub is-counted-spec : {M : Type 1} → statement M
-is-counted-spec =
+pub is-summed-spec : {M : Type 1} → statement M
+is-summed-spec =
     tie.close
     (tie.spec
     heads-of-requires
