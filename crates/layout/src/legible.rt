@@ -1,5 +1,7 @@
 // "names .. legal": words that hold a name's bytes from the most significant down, and zeros after it.
 use crate::limits::NAMEWORDS;
+use text::classes::Class;
+use text::classes::in_class;
 use words::scan::all_zero;
 ghost use mathlib.Core.Path.{_≡_};
 ghost use Prim.Native.Nat.{_*_, _≤_, _<_};
@@ -16,11 +18,6 @@ ghost use Rattle.layout.specs.Damage.{allNamed};
 const HIGHEST: u64 = 72057594037927936;
 
 const BYTE: u64 = 256;
-
-// The name bytes as bits of two words: those below 64, which are the digits, and those from 64 on.
-const DIGITS: u64 = 0x03ff000000000000;
-
-const LETTERS: u64 = 0x07fffffe87fffffe;
 
 // Every statement's four words hold a legal name.
 pub fn all_named(heads: &[u64], names: &[u64]) -> bool
@@ -86,11 +83,5 @@ fn is_name_byte(b: u64) -> bool
     requires { ⌜ b < 256 ⌝ }
     ensures { λ r. ⌜ r ≡ nameByte b ⌝ }
 {
-    if b < 64 {
-        return (DIGITS >> b) % 2 == 1;
-    }
-    if b < 128 {
-        return (LETTERS >> (b - 64)) % 2 == 1;
-    }
-    false
+    in_class(Class::Name, b as u8)
 }
