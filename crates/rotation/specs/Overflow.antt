@@ -67,7 +67,7 @@ pub record FiniteProducts (a d w : SineCosine) : Type 0 where
   pub cw-sd-ca : finite (cosine w ⊗ sine d ⊗ cosine a) ≡ true
   pub cw-sd-sa : finite (cosine w ⊗ sine d ⊗ sine a) ≡ true
 
--- RA, DEC and W as they are unwrapped, wrapped, and their matrix
+-- RA, DEC and W as they are summed, wrapped, and their matrix
 pub record FiniteMatrix (s : Sums) : Type 0 where
   pub RA : finite (s .ra) ≡ true
   pub DEC : finite (s .dec) ≡ true
