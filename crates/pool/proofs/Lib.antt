@@ -13,5 +13,4 @@ pub mod Fetching
 pub mod Tallying
 -- remove
 pub mod Parted
-pub mod Removal
 pub mod Removing

@@ -20,10 +20,10 @@ use Rattle.layout.proofs.Holds.{Holds, holds-decode, texts-decode, length-decod
 use Rattle.pool.specs.Replies.{done, refusing}
 use Rattle.pool.specs.Load.{held}
 use Rattle.pool.specs.Remove.{without, removeReply, removeMemory, Removes}
-use Rattle.pool.specs.Gaps.{Gapped, takenOut}
+use Rattle.removing.specs.Gaps.{Gapped, takenOut}
 use Rattle.pool.specs.declared.reply.Reply.the-variants.{Done}
 use Rattle.pool.proofs.Parted.{Parted, parted, without-absent, place-held, place-missing}
-use Rattle.pool.proofs.Removal.{gapped, taken-out}
+use Rattle.removing.proofs.Removal.{gapped, taken-out}
 
 -- the texts of a sound memory are short enough to be counted
 short : (m : List ℕ) → Sound m → Each ShortText (decode m)

@@ -2,7 +2,6 @@
 pub mod Replies
 pub mod Empty
 pub mod Load
-pub mod Gaps
 pub mod Remove
 pub mod Fetch
 pub mod Totals

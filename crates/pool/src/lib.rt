@@ -1,7 +1,6 @@
 // The calls on a pool: document 01, "What the library holds".
 pub mod empty;
 pub mod fetch;
-pub mod gap;
 pub mod load;
 pub mod remove;
 pub mod reply;

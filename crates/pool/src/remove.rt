@@ -1,10 +1,10 @@
 // Remove: the text under a label goes, and what stands after it in every area moves down.
-use crate::gap::take_out;
 use crate::reply::Reply;
 use layout::area::texts_of;
 use layout::check::is_sound;
 use layout::limits::TEXT_COUNT;
 use refusal::Refusal;
+use removing::gap::take_out;
 use words::scan::place_of;
 ghost use Rattle.pool.specs.Remove.{Removes};
 

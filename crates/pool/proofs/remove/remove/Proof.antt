@@ -12,7 +12,7 @@ use Rattle.words.proofs.Each.{Words, words-of}
 use Rattle.layout.specs.Memory.{textWords}
 use Rattle.layout.specs.Damage.{sound}
 use Rattle.layout.proofs.Sound.{Sound, sound-of}
-use Rattle.pool.specs.Gaps.{Gapped, takenOut}
+use Rattle.removing.specs.Gaps.{Gapped, takenOut}
 use Rattle.pool.proofs.Removing.{remove-refused, remove-missing, remove-done, gapped-here}
 use Rattle.pool.proofs.remove.remove.Statement.{statement}
 use Rattle.pool.proofs.remove.remove.Tie as tie

@@ -5,10 +5,10 @@ use Prim.Native.Nat.{ℕ}
 use native.Mathlib.Omega.{arith}
 use borrow.Author.Needs.{needs}
 use Rattle.layout.specs.Limits.{TEXTS-AT, HEADS-AT, NAMES-AT, VALUES-AT}
-use Rattle.pool.specs.Gaps.{closing, fourfold, whole, closed}
-use Rattle.pool.specs.declared.gap.Gap.{Gap}
-use Rattle.pool.proofs.gap.close_areas.Statement.{statement}
-use Rattle.pool.proofs.gap.close_areas.Tie as tie
+use Rattle.removing.specs.Gaps.{closing, fourfold, whole, closed}
+use Rattle.removing.specs.declared.gap.Gap.{Gap}
+use Rattle.removing.proofs.gap.close_areas.Statement.{statement}
+use Rattle.removing.proofs.gap.close_areas.Tie as tie
 
 close-area-requires : tie.Need-close-area-requires
 close-area-requires c κs = search needs

@@ -19,8 +19,8 @@ use Rattle.layout.proofs.Codec.{each-short, each-short-text, sum-texts, sum-hea
 use Rattle.layout.proofs.Legal.{program-append, values-append}
 use Rattle.layout.proofs.Holds.{Holds, perText, perStatement, holds-texts, holds-statements, length-laid-texts, length-laid-heads, holds-framed}
 use Rattle.layout.proofs.Changes as changes
-use Rattle.pool.specs.Gaps.{textGap, statementGap, valueGap, statementsBefore, statementsInside, valuesBefore, valuesInside, closing, left, closed, takenOut, Gapped}
-use Rattle.pool.specs.declared.gap.Gap.{Gap}
+use Rattle.removing.specs.Gaps.{textGap, statementGap, valueGap, statementsBefore, statementsInside, valuesBefore, valuesInside, closing, left, closed, takenOut, Gapped}
+use Rattle.removing.specs.declared.gap.Gap.{Gap}
 
 -- the words that a text and a statement have in their first columns
 abbrev word : Text → List ℕ

@@ -2,8 +2,8 @@
 use Prim.Native.Nat.{_-_}
 use borrow.Author.Needs.{needs}
 use Rattle.layout.specs.Memory.{valueCount}
-use Rattle.pool.proofs.gap.value_gap.Statement.{statement}
-use Rattle.pool.proofs.gap.value_gap.Tie as tie
+use Rattle.removing.proofs.gap.value_gap.Statement.{statement}
+use Rattle.removing.proofs.gap.value_gap.Tie as tie
 
 sum-part-requires : tie.Need-sum-part-requires
 sum-part-requires c κs = search needs

@@ -18,7 +18,7 @@ ghost use lib.ListN.{length};
 ghost use Rattle.words.specs.Over.{part};
 ghost use Rattle.words.specs.Halves.{HALF, sum};
 ghost use Rattle.layout.specs.Limits.{STATEMENTS, VALUES};
-ghost use Rattle.pool.specs.Gaps.{textGap, statementGap, valueGap, closing, fourfold, left, whole, closed, takenOut, Spanned, Gapped, Closes};
+ghost use Rattle.removing.specs.Gaps.{textGap, statementGap, valueGap, closing, fourfold, left, whole, closed, takenOut, Spanned, Gapped, Closes};
 
 // How many elements of an area stand before a gap, in it and after it.
 pub struct Gap {

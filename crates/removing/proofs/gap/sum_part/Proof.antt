@@ -5,8 +5,8 @@ use borrow.Author.Needs.{needs}
 use lib.ListN.{length}
 use Rattle.words.specs.Halves.{sum}
 use Rattle.layout.proofs.Areas.{length-part}
-use Rattle.pool.proofs.gap.sum_part.Statement.{statement}
-use Rattle.pool.proofs.gap.sum_part.Tie as tie
+use Rattle.removing.proofs.gap.sum_part.Statement.{statement}
+use Rattle.removing.proofs.gap.sum_part.Tie as tie
 
 part-of-requires : tie.Need-part-of-requires
 part-of-requires c κs = search needs

@@ -5,10 +5,10 @@ use Prim.Native.Nat.{ℕ}
 use native.Mathlib.Omega.{arith}
 use borrow.Author.Needs.{needs}
 use Rattle.words.specs.Over.{over}
-use Rattle.pool.specs.Gaps.{textGap, statementGap, valueGap, left, closed, takenOut, Spanned, Gapped, Closes}
-use Rattle.pool.specs.declared.gap.Gap.{Gap}
-use Rattle.pool.proofs.gap.take_out.Statement.{statement}
-use Rattle.pool.proofs.gap.take_out.Tie as tie
+use Rattle.removing.specs.Gaps.{textGap, statementGap, valueGap, left, closed, takenOut, Spanned, Gapped, Closes}
+use Rattle.removing.specs.declared.gap.Gap.{Gap}
+use Rattle.removing.proofs.gap.take_out.Statement.{statement}
+use Rattle.removing.proofs.gap.take_out.Tie as tie
 
 -- ---- over plain memories and gaps
 

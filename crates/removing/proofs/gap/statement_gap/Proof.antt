@@ -2,9 +2,9 @@
 use Prim.Native.Nat.{_-_}
 use borrow.Author.Needs.{needs}
 use Rattle.layout.specs.Memory.{statementCount}
-use Rattle.pool.specs.Gaps.{statementsInside}
-use Rattle.pool.proofs.gap.statement_gap.Statement.{statement}
-use Rattle.pool.proofs.gap.statement_gap.Tie as tie
+use Rattle.removing.specs.Gaps.{statementsInside}
+use Rattle.removing.proofs.gap.statement_gap.Statement.{statement}
+use Rattle.removing.proofs.gap.statement_gap.Tie as tie
 
 sum-part-requires : tie.Need-sum-part-requires
 sum-part-requires c κs = search needs

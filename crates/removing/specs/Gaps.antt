@@ -8,7 +8,7 @@ use Rattle.words.specs.Halves.{lower, sum}
 use Rattle.layout.specs.Limits.{TEXTS, STATEMENTS, VALUES, WORDS, NAMEWORDS, TEXTS-AT, HEADS-AT, NAMES-AT, VALUES-AT}
 use Rattle.layout.specs.Memory.{textCount, statementCount, valueCount}
 use Rattle.layout.specs.Damage.{Framed}
-use Rattle.pool.specs.declared.gap.Gap.{Gap}
+use Rattle.removing.specs.declared.gap.Gap.{Gap}
 
 -- ---- the gap of the text at a place
 

@@ -1,0 +1,2 @@
+// A removal's pass: a text's gap in every area, closed.
+pub mod gap;
