@@ -1,4 +1,4 @@
--- Putting no texts writes the totals alone; so make empty and clear leave an undamaged memory that holds nothing. Assumes nothing.
+-- Putting no texts writes the totals alone; the two answers of make empty and of clear, and what make empty leaves. Assumes nothing.
 use mathlib.Core.Path.{_≡_, ap, _∙_}
 use mathlib.Core.Bool.{true, false}
 use mathlib.Core.List.{List, [], _∷_}
@@ -8,14 +8,12 @@ use lib.ListN.{length}
 use Rattle.refusal.specs.declared.Refusal.the-variants.{DamagedPool}
 use Rattle.words.specs.Over.{over}
 use Rattle.words.proofs.Over.{over-nil}
-use Rattle.words.proofs.Each.{Words}
 use Rattle.layout.specs.State.{program, flat}
 use Rattle.layout.specs.Limits.{WORDS, TEXTS-AT, HEADS-AT, NAMES-AT, VALUES-AT}
 use Rattle.layout.specs.Memory.{decode, put}
 use Rattle.layout.specs.Damage.{sized, sound}
-use Rattle.layout.proofs.Sound.{sound-of}
-use Rattle.layout.proofs.Legal.{fits-none, legal-none, bounded-none}
-use Rattle.layout.proofs.Holds.{decode-put, put-sound, put-words}
+use Rattle.layout.proofs.Legal.{fits-none, legal-none}
+use Rattle.layout.proofs.Holds.{decode-put, put-sound}
 use Rattle.pool.specs.Replies.{refusing}
 use Rattle.pool.specs.Empty.{emptyReply, clearReply, emptied, Empties, Clears}
 use Rattle.pool.specs.declared.reply.Reply.the-variants.{Done}
@@ -47,7 +45,7 @@ module _ (m : List ℕ) where
   unfolding clearReply
   clear-done after e a = record { reply = rw e; memory = rw e a }
 
-  -- ---- what they leave
+  -- ---- what make empty leaves
 
   pub empty-sound : sized m ≡ true → sound (emptied (emptyReply m) m) ≡ true
   unfolding emptyReply
@@ -56,14 +54,3 @@ module _ (m : List ℕ) where
   pub empty-decode : sized m ≡ true → decode (emptied (emptyReply m) m) ≡ []
   unfolding emptyReply
   empty-decode e = rw e (decode-put [] m fits-none (eqb-true (length m) WORDS e) legal-none)
-
-  pub clear-sound : sound m ≡ true → sound (emptied (clearReply m) m) ≡ true
-  unfolding clearReply
-  clear-sound e = rw e (put-sound [] m fits-none (sound-of m e .sizes .words) legal-none)
-
-  pub clear-decode : sound m ≡ true → decode (emptied (clearReply m) m) ≡ []
-  unfolding clearReply
-  clear-decode e = rw e (decode-put [] m fits-none (sound-of m e .sizes .words) legal-none)
-
-  pub words-none : length m ≡ WORDS → Words m → Words (put [] m)
-  words-none n w = put-words [] m fits-none n legal-none bounded-none w

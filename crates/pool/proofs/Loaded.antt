@@ -1,6 +1,6 @@
 -- A load keeps an undamaged pool undamaged, and what is held after it is what the answer says. Assumes nothing.
 use Prim.Native.Nat.{ℕ, _≤_}
-use mathlib.Core.Path.{_≡_, refl, sym, subst}
+use mathlib.Core.Path.{_≡_, refl, sym, ap, subst, _∙_}
 use mathlib.Core.Bool.{Bool, true, false}
 use mathlib.Core.List.{List, [], _∷_}
 use borrow.Author.Tests.{eqb-false, ltb-false}
@@ -20,9 +20,11 @@ use Rattle.layout.proofs.Holds.{decode-legal, decode-put, put-sound}
 use Rattle.layout.proofs.Legal.{Fair, Legal, fits-of, legal-add}
 use Rattle.layout.proofs.Sound.{sound-of}
 use Rattle.pool.specs.Replies.{done, refusing}
+use Rattle.pool.specs.declared.reply.Reply.{Reply}
 use Rattle.pool.specs.Load.{held, textOf, with, admitted, loadAnswer, loadReply, loadMemory}
 use Rattle.pool.proofs.Adding.{body-read}
 use Rattle.pool.proofs.Admitted.{text-fair}
+use Rattle.pool.proofs.Loading.{label-asked, length-asked, text-asked}
 
 -- ---- a label that is not held
 
@@ -46,16 +48,18 @@ pub record Accepted (label : ℕ) (bytes : List ℕ) (s : Pool) : Type 0 where
   pub fits : room (with s (textOf label bytes)) ≡ true
 
 pub done-accepted : (label : ℕ) (bytes : List ℕ) (s : Pool) → done (loadAnswer label bytes s) ≡ true → Accepted label bytes s
-unfolding loadAnswer
-done-accepted label bytes s = by (held label s) (ltb LONGEST-LOAD (length bytes)) (readText bytes) (room (with s (textOf label bytes))) refl refl refl refl
+done-accepted label bytes s e = by (held label s) (ltb LONGEST-LOAD (length bytes)) (readText bytes) (room (with s (textOf label bytes))) refl refl refl refl
   where
-    by : (h l : Bool) (x : Read) (r : Bool) → held label s ≡ h → ltb LONGEST-LOAD (length bytes) ≡ l → readText bytes ≡ x → room (with s (textOf label bytes)) ≡ r
-        → done (if h then refusing LabelHeld else (if l then refusing TextTooLong else admitted x r)) ≡ true → Accepted label bytes s
-    by true l x r a b c d e = true-false (sym e)
-    by false true x r a b c d e = true-false (sym e)
-    by false false (fine es) true a b c d e = record { free = a; short = ltb-false LONGEST-LOAD (length bytes) b; events = es; reads = c; fits = d }
-    by false false (fine es) false a b c d e = true-false (sym e)
-    by false false (refused q i j) r a b c d e = true-false (sym e)
+    -- a load that is answered otherwise is not accepted
+    otherwise : (r : Reply) → loadAnswer label bytes s ≡ r → done r ≡ false → Accepted label bytes s
+    otherwise r a f = true-false (sym e ∙ ap done a ∙ f)
+
+    by : (h l : Bool) (x : Read) (r : Bool) → held label s ≡ h → ltb LONGEST-LOAD (length bytes) ≡ l → readText bytes ≡ x → room (with s (textOf label bytes)) ≡ r → Accepted label bytes s
+    by true l x r a b c d = otherwise (refusing LabelHeld) (label-asked label bytes s a) refl
+    by false true x r a b c d = otherwise (refusing TextTooLong) (length-asked label bytes s a b) refl
+    by false false (fine es) true a b c d = record { free = a; short = ltb-false LONGEST-LOAD (length bytes) b; events = es; reads = c; fits = d }
+    by false false (fine es) false a b c d = otherwise (admitted (fine es) false) (text-asked label bytes s a b ∙ (λ i. admitted (c i) (d i))) refl
+    by false false (refused q j k) r a b c d = otherwise (admitted (refused q j k) r) (text-asked label bytes s a b ∙ (λ i. admitted (c i) (d i))) refl
 
 -- ---- what is held afterwards
 

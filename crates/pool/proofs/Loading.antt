@@ -5,6 +5,7 @@ use mathlib.Core.Path.{_≡_, refl, sym, ap, _∙_}
 use mathlib.Core.Bool.{Bool, true, false}
 use mathlib.Core.List.{List}
 use borrow.Author.Tests.{lt-ltb, le-ltb}
+use lib.Dec.{ltb}
 use lib.ListN.{length}
 use Rattle.refusal.specs.declared.Refusal.{Refusal}
 use Rattle.refusal.specs.declared.Refusal.the-variants.{LabelHeld, TextTooLong, NoRoom, DamagedPool}
@@ -13,7 +14,7 @@ use Rattle.text.specs.Statements.{Event, openings, givings}
 use Rattle.text.specs.Text.{Read, fine, refused, readText, tallied}
 use Rattle.text.specs.declared.Checked.the-variants as C
 use Rattle.text.specs.declared.faults.Fault.{Fault}
-use Rattle.layout.specs.State.{flat, valuesOf}
+use Rattle.layout.specs.State.{Pool, flat, valuesOf}
 use Rattle.layout.specs.Limits.{room, LONGEST-LOAD}
 use Rattle.layout.specs.Memory.{decode, put}
 use Rattle.layout.specs.Damage.{sound}
@@ -51,6 +52,23 @@ module _ (label : ℕ) (bytes : List ℕ) (n k : ℕ) (t : tallied (readText byt
   pub values-told : length (flat valuesOf (textOf label bytes .body)) ≡ k
   values-told = let a = tallied-admitted (readText bytes) n k t in body-valued label bytes (a .events) (a .reads) ∙ a .gives
 
+-- ---- the questions, in their order
+
+module _ (label : ℕ) (bytes : List ℕ) (s : Pool) where
+  pub label-asked : held label s ≡ true → loadAnswer label bytes s ≡ refusing LabelHeld
+  unfolding loadAnswer
+  label-asked h = rw h
+
+  module _ (h : held label s ≡ false) where
+    pub length-asked : ltb LONGEST-LOAD (length bytes) ≡ true → loadAnswer label bytes s ≡ refusing TextTooLong
+    unfolding loadAnswer
+    length-asked l = rw (h, l)
+
+    -- the lines, and then the room
+    pub text-asked : ltb LONGEST-LOAD (length bytes) ≡ false → loadAnswer label bytes s ≡ admitted (readText bytes) (room (with s (textOf label bytes)))
+    unfolding loadAnswer
+    text-asked l = rw (h, l)
+
 -- ---- the answers
 
 module _ (label : ℕ) (bytes m : List ℕ) where
@@ -64,20 +82,21 @@ module _ (label : ℕ) (bytes m : List ℕ) where
   damaged e = refuses DamagedPool 0 (rw e)
 
   module _ (e : sound m ≡ true) where
+    undamaged : loadReply label bytes m ≡ loadAnswer label bytes (decode m)
+    unfolding loadReply
+    undamaged = rw e
+
     pub label-held : held label (decode m) ≡ true → Loads label bytes m (refusing LabelHeld) m
-    unfolding loadReply loadAnswer
-    label-held h = refuses LabelHeld 0 (rw (e, h))
+    label-held h = refuses LabelHeld 0 (undamaged ∙ label-asked label bytes (decode m) h)
 
     module _ (h : held label (decode m) ≡ false) where
       pub too-long : LONGEST-LOAD < length bytes → Loads label bytes m (refusing TextTooLong) m
-      unfolding loadReply loadAnswer
-      too-long l = refuses TextTooLong 0 (rw (e, h, lt-ltb LONGEST-LOAD (length bytes) l))
+      too-long l = refuses TextTooLong 0 (undamaged ∙ length-asked label bytes (decode m) h (lt-ltb LONGEST-LOAD (length bytes) l))
 
       module _ (l : length bytes ≤ LONGEST-LOAD) where
         -- by the first pass and the room
         answers : loadReply label bytes m ≡ admitted (readText bytes) (room (with (decode m) (textOf label bytes)))
-        unfolding loadReply loadAnswer
-        answers = rw (e, h, le-ltb LONGEST-LOAD (length bytes) l)
+        answers = undamaged ∙ text-asked label bytes (decode m) h (le-ltb LONGEST-LOAD (length bytes) l)
 
         pub faulty : (q : Fault) (line place : ℕ) → tallied (readText bytes) ≡ C.Refused q line place → Loads label bytes m (Refused (refusalOf q) line) m
         faulty q line place t = refuses (refusalOf q) line (answers ∙ ap (λ (x : Read). admitted x (room (with (decode m) (textOf label bytes)))) (tallied-refused (readText bytes) q line place t))
