@@ -1,4 +1,4 @@
--- The answer of a load, test by test: "Order: 15 first; then by call 1, 2, the first faulty line .., 7". Assumes nothing.
+-- The answer of a load, question by question: 15, 1, 2, the first faulty line, 7. Assumes nothing.
 use Prim.Native.Nat.{ℕ, _≤_, _<_}
 use native.Mathlib.Omega.{arith}
 use mathlib.Core.Path.{_≡_, refl, sym, ap, _∙_}

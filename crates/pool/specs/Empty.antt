@@ -1,4 +1,5 @@
--- Make empty and clear: both write the totals and leave every other word. Definitions only.
+-- 15 is given by "every call that uses the pool; make empty for the size alone". Make empty and clear write the totals and leave every
+-- other word. Definitions only.
 use Prim.Native.Nat.{ℕ}
 use mathlib.Core.Path.{_≡_}
 use mathlib.Core.List.{List, []}
@@ -10,7 +11,6 @@ use Rattle.pool.specs.Replies.{done, refusing}
 use Rattle.pool.specs.declared.reply.Reply.{Reply}
 use Rattle.pool.specs.declared.reply.Reply.the-variants.{Done}
 
--- "DAMAGED POOL .. make empty for the size alone"
 unfoldable pub emptyReply : List ℕ → Reply
 emptyReply m = if sized m then Done else refusing DamagedPool
 

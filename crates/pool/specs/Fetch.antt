@@ -1,5 +1,5 @@
--- Fetch: "13 NO VARIABLE: no held statement has that name", "14 SHORT BUFFER: buffer shorter than the variable". "A successful fetch
--- writes the values from the buffer's start and no further." Definitions only.
+-- 13 where "no held statement has that name", 14 where "buffer shorter than the variable", both after 15: what fetch answers, and the
+-- buffer that it leaves. Definitions only.
 use Prim.Native.Nat.{ℕ}
 use mathlib.Core.Path.{_≡_}
 use mathlib.Core.List.{List}

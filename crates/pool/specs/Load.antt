@@ -1,5 +1,5 @@
--- Load: "a text is accepted exactly when its label is not held, the rules admit it and the undamaged pool has room." "Order: 15 first;
--- then by call 1, 2, the first faulty line .., 7." Definitions only.
+-- "A text is accepted exactly when its label is not held, the rules admit it and the undamaged pool has room." "Order: 15 first; then by
+-- call 1, 2, the first faulty line (in it 3, then 4, then whichever of 5 and 6 starts at the earlier byte), 7". Definitions only.
 use Prim.Native.Nat.{ℕ, _≤_}
 use mathlib.Core.Path.{_≡_}
 use mathlib.Core.Bool.{Bool, true, false}
@@ -28,7 +28,7 @@ held label (t ∷ ts) = if eqb (t .label) label then true else held label ts
 unfoldable pub textOf : (label : ℕ) (bytes : List ℕ) → Text
 textOf label bytes = record { label = label; body = statements (added (readText bytes)) }
 
--- the state with one text more: "taking out a label and loading it again puts it last"
+-- the state with one text more: "Taking out a label and loading it again puts it last."
 abbrev pub with : Pool → Text → Pool
 with s t = s ++ (t ∷ [])
 

@@ -1,4 +1,5 @@
--- Remove: "8 NOT HELD: label not held"; "a text that is taken out must leave the old globe behind". Definitions only.
+-- "Room freed by a removal can be used again.": the text under a label goes, and the others keep their order; 8 where "label not held".
+-- Definitions only.
 use Prim.Native.Nat.{ℕ}
 use mathlib.Core.Path.{_≡_}
 use mathlib.Core.List.{List, [], _∷_}

@@ -1,5 +1,5 @@
 -- "Success is number 0 with line 0, and fetch also tells the count (0 when refused). A refusal returns its number, for 3 to 6 the line
--- (0 for all others), and no values." Definitions only.
+-- (0 for all others), and no values; pool and buffers keep every byte." Definitions only.
 use Prim.Native.Nat.{ℕ}
 use mathlib.Core.Bool.{Bool, true, false}
 use Rattle.refusal.specs.Numbers.{SUCCESS, numberOf}

@@ -1,4 +1,4 @@
--- "Totals held (texts, statements, values)", "totals being the counts summed over those texts". Definitions only.
+-- "totals held (texts, statements, values)", "totals being the counts summed over those texts". Definitions only.
 use Prim.Native.Nat.{ℕ}
 use mathlib.Core.Path.{_≡_}
 use mathlib.Core.List.{List}

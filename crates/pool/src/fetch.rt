@@ -1,4 +1,4 @@
-// Fetch a variable: "Order: 15 first; .. 13, 14".
+// Fetch a variable: 15, then 13, then 14.
 use crate::reply::Fetched;
 use layout::check::is_sound;
 use refusal::Refusal;
@@ -17,7 +17,7 @@ pub fn fetch(pool: &[u64], name: &[u8], buffer: &mut [f64]) -> Fetched
     answer(variable(pool, name, buffer))
 }
 
-// "13 NO VARIABLE: no held statement has that name", "14 SHORT BUFFER: buffer shorter than the variable"
+// 13 where "no held statement has that name", 14 where "buffer shorter than the variable".
 fn answer(found: Found) -> Fetched
     ensures { λ r. ⌜ r ≡ fetched found ⌝ }
 {

@@ -1,4 +1,4 @@
-// Load: document 01, "a text is accepted exactly when its label is not held, the rules admit it and the undamaged pool has room".
+// Load: "A text is accepted exactly when its label is not held, the rules admit it and the undamaged pool has room."
 use crate::reply::Reply;
 use layout::area::texts_of;
 use layout::check::is_sound;

@@ -1,4 +1,5 @@
--- A variable of an undamaged pool, wanted in a room of so many values: whether it is there, and what is written. Definitions only.
+-- "A successful fetch writes the values from the buffer's start and no further.": whether a variable of an undamaged pool is there and
+-- has room in a buffer, and what is written. Definitions only.
 use Prim.Native.Nat.{ℕ}
 use mathlib.Core.Path.{_≡_}
 use mathlib.Core.List.{List, map}
