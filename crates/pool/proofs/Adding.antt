@@ -1,11 +1,11 @@
 -- A text that is accepted, written behind what is held, is the state with one text more. Assumes nothing.
 use Prim.Native.Nat.{ℕ, _+_, _*_}
 use native.Mathlib.Omega.{arith}
-use mathlib.Core.Path.{_≡_, refl, sym, ap, _∙_}
+use mathlib.Core.Path.{_≡_, refl, sym, ap, subst, _∙_}
 use mathlib.Core.List.{List, [], _∷_}
 use lib.ListN.{length, length-append}
 use Rattle.text.specs.Statements.{Event, Statement, statements, openings, givings}
-use Rattle.text.specs.Text.{Read, fine, readText}
+use Rattle.text.specs.Text.{fine, readText}
 use Rattle.text.specs.Text as T
 use Rattle.text.proofs.Counts.{total, statements-counted, values-counted}
 use Rattle.text.proofs.Legal.{none-loose}
@@ -13,7 +13,7 @@ use Rattle.words.specs.Halves.{HALF}
 use Rattle.words.specs.Over.{over}
 use Rattle.words.proofs.Each.{Words}
 use Rattle.layout.specs.State.{Pool, program, flat, valuesOf, values}
-use Rattle.layout.specs.Limits.{NAMEWORDS, TEXTS-AT, HEADS-AT, NAMES-AT, VALUES-AT}
+use Rattle.layout.specs.Limits.{TEXTS-AT, HEADS-AT, NAMES-AT, VALUES-AT}
 use Rattle.layout.specs.Memory.{textCount, statementCount, valueCount, textWord, headWord, nameOf, decode, put}
 use Rattle.layout.proofs.Changes.{added}
 use Rattle.layout.proofs.Codec.{length-laid-names}
@@ -70,22 +70,21 @@ module _ (label : ℕ) (bytes : List ℕ) (n k : ℕ) (m : List ℕ) (a : Accept
   pub leaves : Leaves m n k
   leaves = fits-leaves m (a .undamaged) (textOf label bytes) n k opened-all given-all (fits-of (with (decode m) (textOf label bytes)) (a .roomy))
 
-  -- the text can be written
-  pub admits : (pen : Pen) → pen ≡ penBehind (statementCount m) (valueCount m) → Admits bytes pen
-  admits pen p =
+  -- the text can be written behind what is held
+  admits-behind : Admits bytes (penBehind (statementCount m) (valueCount m))
+  admits-behind =
       let l = leaves in
       let o = a .opens in
       let g = a .gives in
-      let h : pen .heads ≡ HEADS-AT + statementCount m = ap (λ (x : Pen). x .heads) p in
-      let i : pen .names ≡ NAMES-AT + NAMEWORDS * statementCount m = ap (λ (x : Pen). x .names) p in
-      let j : pen .values ≡ VALUES-AT + valueCount m = ap (λ (x : Pen). x .values) p in
-      let z : pen .head ≡ 0 = ap (λ (x : Pen). x .head) p in
       record {
         events = a .events;
         reads = a .reads;
         long = a .long;
         room = record { some = omega arith; heads = omega (arith, l .statements); names = omega (arith, l .statements); values = omega (arith, l .values); head = omega arith };
       }
+
+  pub admits : (pen : Pen) → pen ≡ penBehind (statementCount m) (valueCount m) → Admits bytes pen
+  admits pen p = subst (Admits bytes) (sym p) admits-behind
 
   -- what is written, with the text's word before it and the totals behind it
   pub added-put : Words m → (m1 m3 m4 : List ℕ) (pen end : Pen) → pen ≡ penBehind (statementCount m) (valueCount m)
@@ -98,20 +97,17 @@ module _ (label : ℕ) (bytes : List ℕ) (n k : ℕ) (m : List ℕ) (a : Accept
       let t = textOf label bytes in
       let es = a .events in
       let hold = holds-decode m (sound-of m (a .undamaged)) w in
-      let fits = fits-of (with s t) (a .roomy) in
       let l = leaves in
-      let h : pen .heads ≡ HEADS-AT + statementCount m = ap (λ (x : Pen). x .heads) p in
-      let i : pen .names ≡ NAMES-AT + NAMEWORDS * statementCount m = ap (λ (x : Pen). x .names) p in
-      let j : pen .values ≡ VALUES-AT + valueCount m = ap (λ (x : Pen). x .values) p in
+      let b = penBehind (statementCount m) (valueCount m) in
       let c : length (statements es) ≡ n = statements-counted bytes es (a .reads) ∙ a .opens in
-      let apart : Apart pen (length (statements es)) = record { some = omega arith; heads = omega (arith, l .statements); names = omega (arith, l .statements) } in
-      let r : writtenOn (T.added (readText bytes)) (page m1 pen) ≡ writtenOn es (page m1 pen) = ap (λ (x : Read). writtenOn (T.added x) (page m1 pen)) (a .reads) in
-      let x3 : m3 ≡ laidOn (t .body) (page m1 pen) =
-      ap (λ (x : Page). x .memory) (e3 ∙ r) ∙ all-written es (page m1 pen) (none-loose bytes es (a .reads)) apart ∙ ap (λ (ss : List Statement). laidOn ss (page m1 pen)) (sym (body-read label bytes es (a .reads))) in
-      let x4 : laidOn (t .body) (page m1 pen) ≡ addColumns perStatement (program s) (t .body) m1 = behind-columns (program s) (t .body) m1 pen
+      let apart : Apart b (length (statements es)) = record { some = omega arith; heads = omega (arith, l .statements); names = omega (arith, l .statements) } in
+      let r : writtenOn (T.added (readText bytes)) (page m1 pen) ≡ writtenOn es (page m1 b) = λ i. writtenOn (T.added (a .reads i)) (page m1 (p i)) in
+      let x3 : m3 ≡ laidOn (t .body) (page m1 b) =
+      ap (λ (x : Page). x .memory) (e3 ∙ r) ∙ all-written es (page m1 b) (none-loose bytes es (a .reads)) apart ∙ ap (λ (ss : List Statement). laidOn ss (page m1 b)) (sym (body-read label bytes es (a .reads))) in
+      let x4 : laidOn (t .body) (page m1 b) ≡ addColumns perStatement (program s) (t .body) m1 = behind-columns (program s) (t .body) m1 b
       (omega (arith, length-laid-heads (program s), hold .statementCount=)) (omega (arith, length-laid-names (program s), hold .statementCount=)) (omega (arith, hold .valueCount=)) in
       let x1 : m1 ≡ addColumns perText s (t ∷ []) m = e1 ∙ behind-texts label bytes s m (textCount m) n (hold .textCount=) opened-all in
       let q0 : textCount m + 1 ≡ length (with s t) = omega (arith, hold .textCount=, texts-with s t) in
       let q1 : statementCount m + n ≡ length (program (with s t)) = omega (arith, hold .statementCount=, statements-with s t, opened-all) in
       let q2 : valueCount m + k ≡ length (values (with s t)) = omega (arith, hold .valueCount=, values-with s t, given-all) in
-      e4 ∙ (λ i. over 0 (q0 i ∷ q1 i ∷ q2 i ∷ []) ((x3 ∙ x4 ∙ ap (addColumns perStatement (program s) (t .body)) x1) i)) ∙ added m s t hold fits
+      e4 ∙ (λ i. over 0 (q0 i ∷ q1 i ∷ q2 i ∷ []) ((x3 ∙ x4 ∙ ap (addColumns perStatement (program s) (t .body)) x1) i)) ∙ added m s t hold (fits-of (with s t) (a .roomy))

@@ -1,6 +1,6 @@
 -- Taking out the text at a place is putting the state without it: the numbers that the code sums up are the lengths of what stands
 -- before the gap, in it and after it. Assumes nothing.
-use mathlib.Core.Path.{_≡_, sym, ap, ap₂, subst, _∙_}
+use mathlib.Core.Path.{_≡_, sym, ap, subst, _∙_}
 use mathlib.Core.List.{List, [], _∷_, _++_}
 use Prim.Native.Nat.{ℕ, suc, _+_, _-_, _<_}
 use native.Mathlib.Nat.{add-zero}
@@ -37,6 +37,11 @@ at-first : (o x : ℕ) (xs m : List ℕ) → At o (x ∷ xs) m → getD m o 0 �
 at-first o x xs m h =
     ap (λ (k : ℕ). getD m k 0) (sym (add-zero o)) ∙ sym (getD-drop o m 0 0)
     ∙ sym (getD-take (suc (length xs)) (drop o m) 0 0 (omega arith)) ∙ ap (λ (l : List ℕ). getD l 0 0) h
+
+-- the heads of statements that stand at a place count their values
+counted-at : (o : ℕ) (ss : List Statement) (m : List ℕ) → At o (flat head ss) m → length (flat valuesOf ss) < HALF → (k : ℕ) → k ≡ length ss → sum (part o k m) ≡ length (flat valuesOf ss)
+counted-at o ss m h f k e =
+    ap (λ (j : ℕ). sum (part o j m)) (e ∙ sym (length-laid-heads ss)) ∙ ap sum (h ∙ flat-map headWord ss) ∙ sum-heads ss (each-short ss f)
 
 module _ (m : List ℕ) (a : Pool) (t : Text) (b : Pool) (H : Holds m (a ++ (t ∷ b))) where
   abbrev values-t : List ℕ
@@ -89,19 +94,6 @@ module _ (m : List ℕ) (a : Pool) (t : Text) (b : Pool) (H : Holds m (a ++ (t �
       let f : getD m (TEXTS-AT + length (flat word a)) 0 ≡ textWord t = at-first (TEXTS-AT + length (flat word a)) (textWord t) (flat word b) m (at-right TEXTS-AT (flat word a) (flat word (t ∷ b)) m texts-at) in
       ap lower (ap (λ (k : ℕ). getD m (TEXTS-AT + k) 0) (sym (length-laid-texts a)) ∙ f) ∙ lower-joined (t .label) (length (t .body)) (omega (arith, few-statements))
 
-  before-values : (s : ℕ) → s ≡ length (program a) → sum (part HEADS-AT s m) ≡ length (values a)
-  before-values s e =
-      ap (λ (k : ℕ). sum (part HEADS-AT k m)) (e ∙ sym (length-laid-heads (program a)))
-      ∙ ap sum (at-left HEADS-AT (flat head (program a)) (flat head (t .body) ++ flat head (program b)) m heads-at ∙ flat-map headWord (program a))
-      ∙ sum-heads (program a) (each-short (program a) (omega (arith, few-values)))
-
-  inside-values : (s k : ℕ) → s ≡ length (program a) → k ≡ length (t .body) → sum (part (HEADS-AT + s) k m) ≡ length values-t
-  inside-values s k e f =
-      ap₂ (λ (x y : ℕ). sum (part (HEADS-AT + x) y m)) (e ∙ sym (length-laid-heads (program a))) (f ∙ sym (length-laid-heads (t .body)))
-      ∙ ap sum (at-left (HEADS-AT + length (flat head (program a))) (flat head (t .body)) (flat head (program b)) m
-      (at-right HEADS-AT (flat head (program a)) (flat head (t .body) ++ flat head (program b)) m heads-at) ∙ flat-map headWord (t .body))
-      ∙ sum-heads (t .body) (each-short (t .body) (omega (arith, few-values)))
-
   -- ---- the gaps
 
   abbrev p : ℕ
@@ -111,10 +103,16 @@ module _ (m : List ℕ) (a : Pool) (t : Text) (b : Pool) (H : Holds m (a ++ (t �
   s = statementGap p m
 
   values-before : valuesBefore s m ≡ length (values a)
-  values-before = before-values (s .before) before-statements
+  values-before =
+      counted-at HEADS-AT (program a) m (at-left HEADS-AT (flat head (program a)) (flat head (t .body) ++ flat head (program b)) m heads-at)
+      (omega (arith, few-values)) (s .before) before-statements
 
   values-inside : valuesInside s m ≡ length values-t
-  values-inside = inside-values (s .before) (s .inside) before-statements inside-statements
+  values-inside =
+      let o = HEADS-AT + length (flat head (program a)) in
+      let h = at-right HEADS-AT (flat head (program a)) (flat head (t .body) ++ flat head (program b)) m heads-at in
+      ap (λ (k : ℕ). sum (part (HEADS-AT + k) (s .inside) m)) (before-statements ∙ sym (length-laid-heads (program a)))
+      ∙ counted-at o (t .body) m (at-left o (flat head (t .body)) (flat head (program b)) m h) (omega (arith, few-values)) (s .inside) inside-statements
 
   pub gapped : Gapped p m
   gapped = record {

@@ -6,7 +6,6 @@ use mathlib.Core.List.{List, [], _∷_, _++_, map}
 use native.Mathlib.Omega.{arith}
 use lib.Ieee.{Float, binary64, ofBits}
 use lib.ListN.{length, drop, getD, length-append, length-map}
-use lib.Seq.{drop-length}
 use Rattle.plain.specs.Lists.{equal}
 use Rattle.text.specs.Statements.{Statement}
 use Rattle.words.specs.Over.{over, part}
@@ -21,11 +20,10 @@ use Rattle.layout.specs.Memory.{statementCount, headWords, valueWords, decode}
 use Rattle.layout.specs.Damage.{small}
 use Rattle.layout.proofs.Areas.{length-heads}
 use Rattle.layout.proofs.Sound.{Sound}
-use Rattle.layout.proofs.Holds.{length-program}
 use Rattle.variables.specs.Variables.{has, gives, variable}
 use Rattle.variables.specs.Found.{doubles}
 use Rattle.variables.specs.Walk.{Begins}
-use Rattle.variables.proofs.Held.{headAt, offsetAt, statementAt, values-within, count-at, program-next}
+use Rattle.variables.proofs.Held.{headAt, offsetAt, statementAt, values-within, program-end, count-at, program-next}
 use Rattle.variables.proofs.Names.{Hands, has-told, head-told}
 
 abbrev reals : List ℕ → List Float
@@ -62,8 +60,7 @@ pub gathered-all : (name m : List ℕ) (before out : List Float) (s value at : �
     → out ≡ over 0 (doubles name (decode m)) before
 unfolding flat
 gathered-all name m before out s value at S h G =
-    let e : s ≡ length (program (decode m)) = omega (arith, G .within, length-program m S) in
-    let d : drop s (program (decode m)) ≡ [] = ap (λ (j : ℕ). drop j (program (decode m))) e ∙ drop-length (program (decode m)) in
+    let d = program-end m S s (omega (arith, G .within)) in
     sym (over-nil at out) ∙ sym (ap (λ (l : List Statement). over at (reals (flat (gives name) l)) out) d) ∙ G .rest
 
 -- ---- the statement at place s

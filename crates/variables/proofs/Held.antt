@@ -5,7 +5,7 @@ use mathlib.Core.Path.{_≡_, refl, sym, ap, ap₂, _∙_}
 use mathlib.Core.List.{List, [], _∷_}
 use native.Mathlib.Omega.{arith}
 use lib.ListN.{length, take, drop, getD, length-drop}
-use lib.Seq.{drop-drop, take-all, length-take-le}
+use lib.Seq.{drop-drop, drop-length, take-all, length-take-le}
 use Rattle.text.specs.Statements.{Statement}
 use Rattle.words.specs.Over.{part}
 use Rattle.words.specs.Halves.{upper, lower, sum}
@@ -17,7 +17,7 @@ use Rattle.layout.specs.Names.{unpacked}
 use Rattle.layout.specs.Memory.{statementCount, valueCount, headWords, nameWords, valueWords, operatorOf, cutStatements, decode}
 use Rattle.layout.proofs.Areas.{length-heads, length-values}
 use Rattle.layout.proofs.Sound.{Sound}
-use Rattle.layout.proofs.Holds.{program-decode}
+use Rattle.layout.proofs.Holds.{program-decode, length-program}
 
 -- the statements from place k on
 drop-cut : (k : ℕ) (hs ns vs : List ℕ)
@@ -57,6 +57,10 @@ module _ (m : List ℕ) (S : Sound m) where
   -- the values end where the last statement's do
   pub offset-end : offsetAt m (statementCount m) ≡ valueCount m
   offset-end = ap sum (take-all (statementCount m) (headWords m) (omega (arith, length-heads m (S .sizes)))) ∙ S .values=
+
+  -- no statement is left there
+  pub program-end : (k : ℕ) → k ≡ statementCount m → drop k (program (decode m)) ≡ []
+  program-end k e = ap (λ (j : ℕ). drop j (program (decode m))) (e ∙ sym (length-program m S)) ∙ drop-length (program (decode m))
 
   module _ (k : ℕ) (h : k < statementCount m) where
     within : k < length (headWords m)

@@ -7,7 +7,6 @@ use mathlib.Core.List.{List, [], _∷_}
 use native.Mathlib.Omega.{arith}
 use borrow.Author.Tests.{eq-eqb, ne-eqb}
 use lib.ListN.{length, take, drop, getD}
-use lib.Seq.{drop-length}
 use Rattle.plain.specs.Lists.{equal}
 use Rattle.text.specs.Statements.{Statement}
 use Rattle.words.specs.Over.{part}
@@ -18,10 +17,9 @@ use Rattle.layout.specs.Limits.{NAMEWORDS}
 use Rattle.layout.specs.Memory.{statementCount, valueCount, headWords, decode}
 use Rattle.layout.proofs.Areas.{length-heads}
 use Rattle.layout.proofs.Sound.{Sound}
-use Rattle.layout.proofs.Holds.{length-program}
 use Rattle.variables.specs.Variables.{has, assigns, any, since, gives, variable}
 use Rattle.variables.specs.Walk.{Begins}
-use Rattle.variables.proofs.Held.{headAt, offsetAt, statementAt, offset-end, count-at, program-next}
+use Rattle.variables.proofs.Held.{headAt, offsetAt, statementAt, offset-end, program-end, count-at, program-next}
 use Rattle.variables.proofs.Names.{Hands, has-told, head-told}
 use Rattle.variables.proofs.Since.{since-all, since-here, none-past, length-past}
 
@@ -43,7 +41,7 @@ pub record Passed (name m : List ℕ) (s value count : ℕ) : Type 0 where
 pub passed-none : (name m : List ℕ) (s : ℕ) → Sound m → s ≡ statementCount m → Passed name m s (valueCount m) 0
 unfolding any flat
 passed-none name m s S e =
-    let d : drop s (program (decode m)) ≡ [] = ap (λ (k : ℕ). drop k (program (decode m))) (e ∙ sym (length-program m S)) ∙ drop-length (program (decode m)) in
+    let d = program-end m S s e in
     record {
       within = omega arith;
       none = ap (any (assigns name)) d;

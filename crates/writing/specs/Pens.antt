@@ -18,7 +18,7 @@ use Rattle.text.specs.declared.values.Stop.{Stop}
 use Rattle.text.specs.declared.values.Stop.the-variants as S
 use Rattle.words.specs.Over.{over}
 use Rattle.words.specs.Halves.{HALF}
-use Rattle.layout.specs.Limits.{NAMEWORDS, WORDS, room, LONGEST-LOAD}
+use Rattle.layout.specs.Limits.{NAMEWORDS, WORDS, LONGEST-LOAD}
 use Rattle.writing.specs.Writing.{Page, page, bits, givenOn, writtenOn}
 use Rattle.writing.specs.declared.pen.Pen.{Pen}
 use Rattle.writing.specs.declared.pen.Turn.{Turn}
