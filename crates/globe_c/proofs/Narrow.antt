@@ -1,9 +1,10 @@
--- Thirty-two bits lose nothing: a line is one of a text of at most 65,536 bytes, a count is one of at most 3,072 held values.
--- Assumes nothing.
+-- Thirty-two bits lose nothing: a line is one of a text of at most 65,536 bytes, a count is one of at most 3,072 held values, so each is
+-- its own remainder. Assumes nothing.
 use mathlib.Core.Path.{_≡_, refl}
 use mathlib.Core.Bool.{Bool, true, false, _&&_}
 use mathlib.Core.List.{List, [], _∷_, _++_}
 use Prim.Native.Nat.{ℕ, _+_, _≤_}
+use native.Mathlib.Nat.{mod-eq-of-lt}
 use native.Mathlib.Omega.{arith}
 use borrow.Author.Tests.{ltb-false}
 use lib.Dec.{eqb, ltb, leb}
@@ -17,12 +18,16 @@ use Rattle.text.proofs.FirstFault.{number-within}
 use Rattle.layout.specs.State.{Pool, program, flat, valuesOf, values}
 use Rattle.layout.specs.Limits.{TEXTS, STATEMENTS, VALUES, room, LONGEST-LOAD}
 use Rattle.layout.specs.Memory.{decode}
-use Rattle.layout.specs.Damage.{sound}
+use Rattle.layout.specs.Damage.{sized, sound}
 use Rattle.layout.proofs.Sound.{sound-of}
 use Rattle.layout.proofs.Holds.{decode-fits}
-use Rattle.refusal.specs.declared.Refusal.the-variants.{LabelHeld, TextTooLong, DamagedPool}
+use Rattle.refusal.specs.declared.Refusal.the-variants.{LabelHeld, TextTooLong, NotHeld, DamagedPool}
+use Rattle.pool.specs.Empty.{emptyReply, clearReply}
+use Rattle.pool.specs.Remove.{removeReply}
 use Rattle.pool.specs.Replies.{replyLine, refusing, fetchedCount, countsTexts, countsStatements, countsValues}
 use Rattle.pool.specs.Totals.{counts, totalsReply}
+use Rattle.pool.specs.declared.reply.Reply.{Reply}
+use Rattle.pool.specs.declared.reply.Reply.the-variants.{Done}
 use Rattle.pool.specs.declared.reply.Counts.the-variants as C
 use Rattle.variables.specs.Variables.{has, any, assigns, since, gives, variable, present}
 use Rattle.pool.specs.Load.{held, admitted, loadAnswer, loadReply, with, textOf}
@@ -30,6 +35,8 @@ use Rattle.variables.specs.Found.{foundIn}
 use Rattle.pool.specs.Fetch.{fetched, fetchReply}
 use Rattle.pool.specs.declared.reply.Fetched.the-variants as F
 use Rattle.variables.specs.declared.variable.Found.the-variants as W
+use Rattle.globe_c.specs.Faces.{narrow}
+use Rattle.globe_c.specs.Narrow.{WholeReply, LosesNothing}
 
 -- ---- lines
 
@@ -51,7 +58,7 @@ line-admitted bytes (fine es) true e h = omega arith
 line-admitted bytes (fine es) false e h = omega arith
 line-admitted bytes (refused q line place) roomy e h = omega (arith, number-within bytes q line place e .1, lines-few bytes)
 
-pub line-few : (label : ℕ) (bytes m : List ℕ) → replyLine (loadReply label bytes m) ≤ LONGEST-LOAD
+line-few : (label : ℕ) (bytes m : List ℕ) → replyLine (loadReply label bytes m) ≤ LONGEST-LOAD
 unfolding loadReply loadAnswer
 line-few label bytes m = by (sound m) (held label (decode m)) (ltb LONGEST-LOAD (length bytes)) refl
   where
@@ -89,7 +96,7 @@ variable-few : (name : List ℕ) (s : Pool) → length (variable name s) ≤ len
 unfolding variable
 variable-few name s = omega (arith, since-few name (program s), gives-few name (program s))
 
-pub count-few : (name : List ℕ) (room : ℕ) (m : List ℕ) → fetchedCount (fetchReply name room m) ≤ VALUES
+count-few : (name : List ℕ) (room : ℕ) (m : List ℕ) → fetchedCount (fetchReply name room m) ≤ VALUES
 unfolding fetchReply foundIn
 count-few name room m = by (sound m) (present name (decode m)) (leb (length (variable name (decode m))) room) refl
   where
@@ -100,7 +107,7 @@ count-few name room m = by (sound m) (present name (decode m)) (leb (length (var
     by true false z e = omega arith
     by false y z e = omega arith
 
-pub totals-few :
+totals-few :
     (m : List ℕ)
     → (countsTexts (totalsReply m) ≤ TEXTS) × (countsStatements (totalsReply m) ≤ STATEMENTS) × (countsValues (totalsReply m) ≤ VALUES)
 unfolding totalsReply
@@ -112,3 +119,38 @@ totals-few m = by (sound m) refl
         × (countsValues (if x then counts (decode m) else C.Refused DamagedPool) ≤ VALUES)
     by true e = let f = decode-fits m (sound-of m e) in (f .texts, f .statements, f .values)
     by false e = (omega arith, omega arith, omega arith)
+
+-- ---- so each structure shows its answer whole
+
+narrow-itself : (n : ℕ) → n ≤ LONGEST-LOAD → narrow n ≡ n
+narrow-itself n h = mod-eq-of-lt (omega arith)
+
+whole-reply : (reply : Reply) → replyLine reply ≤ LONGEST-LOAD → WholeReply reply
+whole-reply reply h = record { number = refl; line = narrow-itself (replyLine reply) h }
+
+-- of a call that reads no text, neither the reply nor 15 has a line
+no-line : (x : Bool) (reply : Reply) → replyLine reply ≡ 0 → WholeReply (if x then reply else refusing DamagedPool)
+no-line true reply e = whole-reply reply (omega arith)
+no-line false reply e = whole-reply (refusing DamagedPool) (omega arith)
+
+pub loses-nothing : LosesNothing
+unfolding emptyReply clearReply removeReply
+loses-nothing =
+    record {
+      makeEmpty = λ m. no-line (sized m) Done refl;
+      load = λ label bytes m. whole-reply (loadReply label bytes m) (line-few label bytes m);
+      remove = λ label m. removed (sound m) (held label (decode m));
+      clear = λ m. no-line (sound m) Done refl;
+      fetch = λ name room m. record { number = refl; line = refl; count = narrow-itself _ (omega (arith, count-few name room m)) };
+      totals = λ m. let t = totals-few m in record {
+        number = refl;
+        line = refl;
+        texts = narrow-itself _ (omega (arith, t .0));
+        statements = narrow-itself _ (omega (arith, t .1));
+        values = narrow-itself _ (omega (arith, t .2));
+      };
+    }
+  where
+    removed : (x y : Bool) → WholeReply (if x then (if y then Done else refusing NotHeld) else refusing DamagedPool)
+    removed x true = no-line x Done refl
+    removed x false = no-line x (refusing NotHeld) refl

@@ -1,4 +1,5 @@
--- Each answer as a C structure: "every answer tells number and line; values and counts of a refused answer are zeros". Definitions only.
+-- "Success is number 0 with line 0, and fetch also tells the count (0 when refused). A refusal returns its number, for 3 to 6 the line
+-- (0 for all others), and no values": each answer as a C structure, whose fields are zeros where there are no values. Definitions only.
 use Prim.Native.Nat.{ℕ, _%_}
 use mathlib.Core.Path.{_≡_}
 use mathlib.Core.List.{List}
@@ -19,7 +20,7 @@ use Rattle.globe_c.specs.declared.face.GlobeCounts.{GlobeCounts}
 use Rattle.globe_c.specs.declared.face.GlobeOriented.{GlobeOriented}
 use Rattle.globe_c.specs.declared.face.GlobeAxes.{GlobeAxes}
 
--- a count in 32 bits: lines are at most 65,536 and counts at most 3,072, so nothing is lost
+-- a line or a count in 32 bits; that nothing is lost is `LosesNothing`
 abbrev pub narrow : ℕ → ℕ
 narrow n = n % 4294967296
 

@@ -1,2 +1,3 @@
 -- The answers as C sees them.
 pub mod Faces
+pub mod Narrow
