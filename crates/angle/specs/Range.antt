@@ -1,4 +1,4 @@
--- The range of wrapped angles. Definitions only.
+-- What is claimed of every wrapped angle: its range. Definitions only.
 use mathlib.Core.Path.{_≡_}
 use mathlib.Core.Bool.{true}
 use lib.Ieee.{Float, lt, le, eq}

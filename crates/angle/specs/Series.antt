@@ -1,4 +1,4 @@
--- "A nested series closes from its innermost term: q = 1, then q = 1 − (z / p)·q for each p." Definitions only.
+-- "a nested series closes from its innermost term: q = 1, then q = 1 − (z / p)·q for each p." Definitions only.
 use mathlib.Core.List.{List, [], _∷_}
 use Prim.Native.Nat.{ℕ, _-_}
 use lib.Ieee.{Float}

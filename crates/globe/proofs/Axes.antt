@@ -5,23 +5,16 @@ use mathlib.Core.List.{List}
 use Prim.Native.Nat.{ℕ, _≤_, _<_}
 use native.Mathlib.Omega.{arith}
 use borrow.Author.Tests.{eq-eqb, ne-eqb}
-use lib.Dec.{eqb}
 use lib.Ieee.{Float}
 use lib.ListN.{length}
-use Rattle.plain.specs.Choice.{if_then_else_}
 use Rattle.refusal.specs.declared.Refusal.the-variants.{UnknownBody, WrongCount}
-use Rattle.rotation.specs.declared.table.Radii.{Radii}
 use Rattle.rotation.specs.declared.table.Radii.the-variants.{Given, Refused}
 use Rattle.variables.specs.declared.variable.Found.{Found}
 use Rattle.variables.specs.declared.variable.Found.the-variants as F
-use Rattle.globe.specs.Radii.{axes}
+use Rattle.globe.specs.Radii.{axes, measured}
 use Rattle.wanted.specs.Steps.{Looks}
 use Rattle.wanted.proofs.Found.{counted, crowded, absent}
 use Rattle.wanted.proofs.Fronts.{over-all}
-
--- by whether the variable is there and has three values
-abbrev measured : Bool → List Float → Radii
-measured there xs = if there then (if eqb (length xs) 3 then Given (axes xs) else Refused WrongCount) else Refused UnknownBody
 
 module _ {there : Bool} {xs before after : List Float} {r : Found} (l : Looks there xs before r after) (size : length before ≡ 3) where
   pub three : (n : ℕ) → r ≡ F.Count n → 3 ≤ n → Given (axes after) ≡ measured there xs

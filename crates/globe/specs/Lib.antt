@@ -1,3 +1,3 @@
--- The answers of either source, and the eight calls.
+-- The two calls that name their source.
 pub mod Orientation
 pub mod Radii

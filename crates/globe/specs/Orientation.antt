@@ -1,4 +1,4 @@
--- The call for an orientation: "Order: 15 first; .. 9, 10, 11, 12. Fifteen is not checked where the built-in source is named."
+-- "Order: 15 first; .. 9, 10, 11, 12. Fifteen is not checked where the built-in source is named." The call for an orientation.
 -- Definitions only.
 use Prim.Native.Nat.{ℕ}
 use mathlib.Core.Path.{_≡_}

@@ -1,6 +1,7 @@
--- The call for radii: "BODYn_RADII absent: 10; not three values: 12." Definitions only.
+-- "BODYn_RADII absent: 10; not three values: 12." The call for radii. Definitions only.
 use Prim.Native.Nat.{ℕ}
 use mathlib.Core.Path.{_≡_}
+use mathlib.Core.Bool.{Bool}
 use mathlib.Core.List.{List}
 use lib.Dec.{eqb}
 use lib.Ieee.{Float, nan}
@@ -25,12 +26,13 @@ use Rattle.globe.specs.declared.source.Source.the-variants as S
 abbrev pub axes : List Float → Axes
 axes xs = record { a = getD xs 0 nan; b = getD xs 1 nan; c = getD xs 2 nan }
 
+-- by whether the variable is there, and its values
+abbrev pub measured : Bool → List Float → Radii
+measured there xs = if there then (if eqb (length xs) 3 then Given (axes xs) else Refused WrongCount) else Refused UnknownBody
+
 -- of a body of a known system
 abbrev pub radiiOf : Pool → (n : ℕ) → Radii
-radiiOf s n =
-    if there s n W.Radii
-    then (if eqb (length (list s n W.Radii)) 3 then Given (axes (list s n W.Radii)) else Refused WrongCount)
-    else Refused UnknownBody
+radiiOf s n = measured (there s n W.Radii) (list s n W.Radii)
 
 abbrev pub bySystem : Pool → (n : ℕ) → System → Radii
 bySystem s n Nowhere = Refused UnknownBody

@@ -1,4 +1,4 @@
--- "Refusal numbers": the table, a line for each refusal; "success is number 0". Definitions only.
+-- "Success is number 0"; the table of "Refusal numbers", a line for each refusal. Definitions only.
 use Prim.Native.Nat.{ℕ}
 use Rattle.refusal.specs.declared.Refusal.{Refusal}
 use Rattle.refusal.specs.declared.Refusal.the-variants as R

@@ -1,7 +1,9 @@
--- What is proved about every answered orientation, for the crates above.
+-- What is proved about every answered orientation, for the crates above; laws that several proofs use.
+pub mod Asked
+mod Arms
+mod Terms
 pub mod Range
 pub mod Reach
-mod Terms
 pub mod Finite
 pub mod Overflow
 pub mod Given

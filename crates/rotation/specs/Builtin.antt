@@ -1,4 +1,4 @@
--- The answers of the built-in source, and their refusals: 9, then 10. Definitions only.
+-- What the built-in source answers: by its table, and 9 before 10. Definitions only.
 use Prim.Native.Nat.{ℕ}
 use mathlib.Core.List.{List, []}
 use lib.Dec.{eqb}

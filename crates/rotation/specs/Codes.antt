@@ -1,4 +1,4 @@
--- "Codes are 1 to 10 and 100 to 999; others are UNKNOWN BODY .. s being the hundreds of n, or n itself up to 10." Definitions only.
+-- "Codes are 1 to 10 and 100 to 999; others are UNKNOWN BODY. .. s being the hundreds of n, or n itself up to 10;" Definitions only.
 use Prim.Native.Nat.{ℕ, _/_}
 use Rattle.plain.specs.Choice.{if_then_else_}
 use Rattle.plain.specs.Bytes.{within}

@@ -1,4 +1,5 @@
--- "D = epoch / 86400 and T = D / 36525: D counts days and T counts Julian centuries." Definitions only.
+-- "D = epoch / 86400 and T = D / 36525: D counts days and T counts Julian centuries, and a rate per day never meets T."
+-- Definitions only.
 use mathlib.Core.Bool.{Bool, _&&_}
 use lib.Ieee.{Float, le, neg}
 use Rattle.plain.specs.Doubles.{_⊘_, printed}
@@ -15,6 +16,6 @@ centuries d = record { 0 = d .0 ⊘ printed 36525 0 }
 abbrev pub farthest : Float
 farthest = printed 157788000000 0
 
--- "EPOCH: not finite, or beyond ±157,788,000,000 s". No comparison holds of a NaN.
+-- all but EPOCH: "not finite, or beyond ±157,788,000,000 s"; no comparison holds of a NaN
 unfoldable pub inReach : Float → Bool
 inReach epoch = le (neg farthest) epoch && le epoch farthest

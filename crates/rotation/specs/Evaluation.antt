@@ -1,4 +1,4 @@
--- "Evaluation": pole, meridian and matrix of elements at an epoch. Definitions only.
+-- "All doubles, printed constants the nearest ones, every operation rounded once, in this order." The whole evaluation. Definitions only.
 use mathlib.Core.List.{List}
 use lib.Ieee.{Float}
 use Rattle.rotation.specs.Epochs.{days, centuries}

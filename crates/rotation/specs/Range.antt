@@ -1,4 +1,4 @@
--- "RA and W are answered wrapped." Definitions only.
+-- "RA and W are answered wrapped, DEC as it stands." Definitions only.
 use Rattle.angle.specs.Range.{InTurn}
 use Rattle.rotation.specs.declared.matrix.Orientation.{Orientation}
 

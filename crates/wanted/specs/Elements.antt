@@ -1,4 +1,6 @@
--- "Elements wanted": what a pool has for a body, and the order of what may be wrong with it. Definitions only.
+-- "None of the three present: 10; some missing: 11. BODYn_NUT_PREC_RA, _DEC and _PM may be absent. If any is there,
+-- BODYs_NUT_PREC_ANGLES must be (else 11), s being the hundreds of n, or n itself up to 10; it has an even count of at most 64, and at
+-- least twice the longest of the three; otherwise 12." Definitions only.
 use Prim.Native.Nat.{ℕ, _*_, _%_, max}
 use mathlib.Core.Bool.{Bool, true, _&&_, _||_, not}
 use mathlib.Core.List.{List, []}

@@ -1,5 +1,5 @@
 -- "With n the code, the variables are BODYn_POLE_RA, BODYn_POLE_DEC, BODYn_PM .. BODYn_NUT_PREC_RA, _DEC and _PM ..
--- BODYs_NUT_PREC_ANGLES .. BODYn_RADII." Definitions only.
+-- BODYs_NUT_PREC_ANGLES .. BODYn_RADII": their bytes. Definitions only.
 use Prim.Native.Nat.{ℕ, _+_, _/_, _%_}
 use mathlib.Core.List.{List, [], _∷_, _++_}
 use lib.Dec.{ltb}

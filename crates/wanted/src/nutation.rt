@@ -56,7 +56,7 @@ pub fn any_there(ra: Found, dec: Found, pm: Found) -> bool
     is_there(pm)
 }
 
-// "It has an even count of at most 64", which is the buffer's, "and at least twice the longest of the three".
+// The angles have "an even count of at most 64", which is the buffer's, "and at least twice the longest of the three".
 pub fn count_terms(angles: Found, ra: Found, dec: Found, pm: Found) -> Terms
     ensures { λ r. ⌜ r ≡ termsOf angles ra dec pm ⌝ }
 {

@@ -1,9 +1,7 @@
 -- `at_epoch` meets its contract: each way out is what the epoch and the code decide. Assumes nothing.
-use mathlib.Core.Path.{_≡_, sym, _∙_}
-use mathlib.Core.Bool.{true, false}
+use mathlib.Core.Path.{sym, _∙_}
 use borrow.Author.Needs.{needs}
-use borrow.Author.Tests.{not-true, not-false}
-use Rattle.rotation.specs.Epochs.{inReach}
+use Rattle.rotation.proofs.Asked.{denied, granted}
 use Rattle.globe.specs.Orientation.{orientationFrom}
 use Rattle.globe.proofs.Codes.{short-code}
 use Rattle.globe.proofs.orientation.at_epoch.Statement.{statement}
@@ -14,9 +12,7 @@ in-reach-requires c κs = search needs
 
 returns : tie.Need-returns
 unfolding orientationFrom
-returns c =
-    let e : inReach (c .before .before .before .args .epoch) ≡ false = sym (c .before .in-reach .ensures) ∙ not-true _ (c .if1 .taken) in
-    rw e
+returns c = rw (denied (c .before .in-reach .ensures) (c .if1 .taken))
 
 system-of-requires : tie.Need-system-of-requires
 system-of-requires c κs = search needs
@@ -30,8 +26,7 @@ enum-told c = search needs
 returns-2 : tie.Need-returns-2
 unfolding orientationFrom
 returns-2 c =
-    let e : inReach (c .before .before .before .before .before .before .args .epoch) ≡ true = sym (c .before .before .before .before .in-reach .ensures) ∙ not-false _ (c .before .before .before .if1 .left) in
-    rw (e, ← c .before .before .system-of .ensures, c .enum-told .given .1)
+    rw (granted (c .before .before .before .before .in-reach .ensures) (c .before .before .before .if1 .left), ← c .before .before .system-of .ensures, c .enum-told .given .1)
 
 by-elements-requires : tie.Need-by-elements-requires
 by-elements-requires c κs =
@@ -42,8 +37,8 @@ by-elements-requires c κs =
 returns-3 : tie.Need-returns-3
 unfolding orientationFrom
 returns-3 c =
-    let e : inReach (c .before .before .before .before .before .before .before .before .args .epoch) ≡ true = sym (c .before .before .before .before .before .before .in-reach .ensures) ∙ not-false _ (c .before .before .before .before .before .if1 .left) in
-    rw (e, ← c .before .before .before .before .system-of .ensures, c .before .before .system .given .1) (c .by-elements .ensures)
+    rw (granted (c .before .before .before .before .before .before .in-reach .ensures) (c .before .before .before .before .before .if1 .left), ← c .before .before .before .before .system-of .ensures, c .before .before .system .given .1)
+    (c .by-elements .ensures)
 
 pub at-epoch-spec : {M : Type 1} → statement M
 at-epoch-spec =

@@ -1,6 +1,6 @@
 -- `orientation` meets its contract: each way out is what the test, the system and the row decide. Assumes nothing.
 use mathlib.Core.Path.{_≡_, sym, ap, _∙_}
-use mathlib.Core.Bool.{Bool, true, false, not, true≢false}
+use mathlib.Core.Bool.{Bool, false, not}
 use Prim.Native.Nat.{ℕ}
 use lib.Ieee.{Float}
 use borrow.Author.Needs.{needs}
@@ -12,21 +12,15 @@ use Rattle.rotation.specs.declared.code.System.{System}
 use Rattle.rotation.specs.declared.code.System.the-variants.{Of}
 use Rattle.rotation.specs.declared.table.Row.{Row}
 use Rattle.rotation.specs.declared.matrix.Oriented.the-variants as O
-use Rattle.refusal.specs.declared.Refusal.the-variants as R
+use Rattle.rotation.proofs.Asked.{denied, granted}
 use Rattle.rotation.proofs.builtin.orientation.Statement.{statement}
 use Rattle.rotation.proofs.builtin.orientation.Tie as tie
 
--- the answer, by what the test, the system and the row came to
-late : (n : ℕ) (epoch : Float) (b : Bool) → b ≡ inReach epoch → not b ≡ true → O.Refused R.Epoch ≡ builtinOrientation n epoch
-unfolding builtinOrientation
-late n epoch true h e = absurd (true≢false (sym e))
-late n epoch false h e = rw (← h)
-
+-- the answer, by what the system and the row came to
 by-system : (n : ℕ) (epoch : Float) (b : Bool) (s : System) → b ≡ inReach epoch → not b ≡ false → s ≡ systemOf n
     → bySystem n epoch s ≡ builtinOrientation n epoch
 unfolding builtinOrientation
-by-system n epoch true s h e k = rw (← h, k)
-by-system n epoch false s h e k = absurd (true≢false e)
+by-system n epoch b s h e k = rw (granted h e, k)
 
 by-row : (n : ℕ) (epoch : Float) (b : Bool) (s : ℕ) (r : Row) → b ≡ inReach epoch → not b ≡ false → Of s ≡ systemOf n → r ≡ rowOf n
     → byRow n epoch r ≡ builtinOrientation n epoch
@@ -36,7 +30,8 @@ in-reach-requires : tie.Need-in-reach-requires
 in-reach-requires c κs = search needs
 
 returns : tie.Need-returns
-returns c = late _ _ _ (c .before .in-reach .ensures) (c .if1 .taken)
+unfolding builtinOrientation
+returns c = rw (denied (c .before .in-reach .ensures) (c .if1 .taken))
 
 system-of-requires : tie.Need-system-of-requires
 system-of-requires c κs = search needs

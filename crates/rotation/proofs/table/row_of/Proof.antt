@@ -1,18 +1,12 @@
 -- `row_of` meets its contract: each arm is the row that `rowOf` picks by the arm's code. Assumes nothing.
-use mathlib.Core.Path.{_≡_, sym, ap, _∙_}
-use Prim.Native.Nat.{ℕ}
 use lib.Ieee.{ofBits, round, neg}
 use borrow.Author.Needs.{needs}
 use borrow.Author.Tests.{ne-eqb}
 use Rattle.plain.specs.Doubles.{printed}
 use Rattle.rotation.specs.Table.{rowOf}
-use Rattle.rotation.specs.declared.table.Row.{Row}
+use Rattle.rotation.proofs.Arms.{arm}
 use Rattle.rotation.proofs.table.row_of.Statement.{statement}
 use Rattle.rotation.proofs.table.row_of.Tie as tie
-
--- the arm of the code k
-arm : {r : Row} {n k : ℕ} → r ≡ rowOf k → n ≡ k → r ≡ rowOf n
-arm h e = h ∙ ap rowOf (sym e)
 
 -- no arm
 rest : tie.Need-returns-11
@@ -47,14 +41,14 @@ row-of-spec =
     (λ c κs. search needs)
     (λ c κs. search needs)
     (λ c κs. search needs)
-    (λ c. arm (c .held .ensures) (c .before .match .keys1))
-    (λ c. arm (c .held2 .ensures) (c .before .match .keys2))
-    (λ c. arm (c .held3 .ensures) (c .before .match .keys3))
-    (λ c. arm (c .held4 .ensures) (c .before .match .keys4))
-    (λ c. arm (c .held5 .ensures) (c .before .match .keys5))
-    (λ c. arm (c .held6 .ensures) (c .before .match .keys6))
-    (λ c. arm (c .held7 .ensures) (c .before .match .keys7))
-    (λ c. arm (c .held8 .ensures) (c .before .match .keys8))
-    (λ c. arm (c .held9 .ensures) (c .before .match .keys9))
-    (λ c. arm (c .held10 .ensures) (c .before .match .keys10))
+    (λ c. arm rowOf (c .held .ensures) (c .before .match .keys1))
+    (λ c. arm rowOf (c .held2 .ensures) (c .before .match .keys2))
+    (λ c. arm rowOf (c .held3 .ensures) (c .before .match .keys3))
+    (λ c. arm rowOf (c .held4 .ensures) (c .before .match .keys4))
+    (λ c. arm rowOf (c .held5 .ensures) (c .before .match .keys5))
+    (λ c. arm rowOf (c .held6 .ensures) (c .before .match .keys6))
+    (λ c. arm rowOf (c .held7 .ensures) (c .before .match .keys7))
+    (λ c. arm rowOf (c .held8 .ensures) (c .before .match .keys8))
+    (λ c. arm rowOf (c .held9 .ensures) (c .before .match .keys9))
+    (λ c. arm rowOf (c .held10 .ensures) (c .before .match .keys10))
     rest)

@@ -1,18 +1,12 @@
 -- `size_of` meets its contract: each arm is the row that `sizeOf` picks by the arm's code. Assumes nothing.
-use mathlib.Core.Path.{_≡_, sym, ap, _∙_}
-use Prim.Native.Nat.{ℕ}
 use lib.Ieee.{ofBits, round}
 use borrow.Author.Needs.{needs}
 use borrow.Author.Tests.{ne-eqb}
 use Rattle.plain.specs.Doubles.{printed}
 use Rattle.rotation.specs.Table.{sizeOf}
-use Rattle.rotation.specs.declared.table.Size.{Size}
+use Rattle.rotation.proofs.Arms.{arm}
 use Rattle.rotation.proofs.table.size_of.Statement.{statement}
 use Rattle.rotation.proofs.table.size_of.Tie as tie
-
--- the arm of the code k
-arm : {s : Size} {n k : ℕ} → s ≡ sizeOf k → n ≡ k → s ≡ sizeOf n
-arm h e = h ∙ ap sizeOf (sym e)
 
 -- no arm
 rest : tie.Need-returns-10
@@ -45,13 +39,13 @@ size-of-spec =
     (λ c κs. search needs)
     (λ c κs. search needs)
     (λ c κs. search needs)
-    (λ c. arm (c .sized .ensures) (c .before .match .keys1))
-    (λ c. arm (c .sized2 .ensures) (c .before .match .keys2))
-    (λ c. arm (c .sized3 .ensures) (c .before .match .keys3))
-    (λ c. arm (c .sized4 .ensures) (c .before .match .keys4))
-    (λ c. arm (c .sized5 .ensures) (c .before .match .keys5))
-    (λ c. arm (c .sized6 .ensures) (c .before .match .keys6))
-    (λ c. arm (c .sized7 .ensures) (c .before .match .keys7))
-    (λ c. arm (c .sized8 .ensures) (c .before .match .keys8))
-    (λ c. arm (c .sized9 .ensures) (c .before .match .keys9))
+    (λ c. arm sizeOf (c .sized .ensures) (c .before .match .keys1))
+    (λ c. arm sizeOf (c .sized2 .ensures) (c .before .match .keys2))
+    (λ c. arm sizeOf (c .sized3 .ensures) (c .before .match .keys3))
+    (λ c. arm sizeOf (c .sized4 .ensures) (c .before .match .keys4))
+    (λ c. arm sizeOf (c .sized5 .ensures) (c .before .match .keys5))
+    (λ c. arm sizeOf (c .sized6 .ensures) (c .before .match .keys6))
+    (λ c. arm sizeOf (c .sized7 .ensures) (c .before .match .keys7))
+    (λ c. arm sizeOf (c .sized8 .ensures) (c .before .match .keys8))
+    (λ c. arm sizeOf (c .sized9 .ensures) (c .before .match .keys9))
     rest)
