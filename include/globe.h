@@ -4,9 +4,9 @@
  *
  * The pool. A pool holds up to 16 texts, each under a label, with 512 statements and 3,072 values.
  * It is memory of GLOBE_POOL_WORDS words that the caller lends at each call, made a pool once by
- * globe_make_empty. The library keeps nothing between calls, asks for no memory, and reads and
- * writes nothing but what is lent to it. So calls on different pools may run at the same time, and
- * so may calls that take the same pool as const.
+ * globe_make_empty; memory that is all zeros is an empty pool already. The library keeps nothing
+ * between calls, asks for no memory, and reads and writes nothing but what is lent to it. So calls
+ * on different pools may run at the same time, and so may calls that take the same pool as const.
  *
  * Lent memory. Each pointer goes with the number of elements behind it, and must not be NULL unless
  * that number is 0. With 0 it is not looked at, and NULL stands for an empty slice: an empty text,
@@ -15,9 +15,13 @@
  *
  * Answers. Each answer has a number, 0 or that of a refusal, and a line, counted from 1: the faulty
  * line of the text for the refusals 3 to 6, and 0 otherwise. The values and counts of a refused
- * answer are zeros. A refused call leaves every byte of the pool and of the buffer as it was. Where
- * several refusals apply, the answer is the one that is asked first; below, each call has its
- * refusals in that order.
+ * answer are zeros. Zeros look like a pole and a meridian: look at the number first. A refused call
+ * leaves every byte of the pool and of the buffer as it was. Where several refusals apply, the
+ * answer is the one that is asked first; below, each call has its refusals in that order.
+ *
+ * Arithmetic. The values are fixed to the last bit. For that the caller owes the default rounding,
+ * to nearest; that small numbers are not flushed to zero, as linking with -ffast-math may have it;
+ * and a C library whose fmod is exact.
  *
  * Epochs are TDB seconds past J2000, which is JD 2451545.0 TDB (source document 001). Body codes
  * are NAIF codes; those with a meaning here are 1 to 10 and 100 to 999. A negative code, passed as
@@ -56,7 +60,7 @@ enum globe_number {
     GLOBE_LINE_TOO_LONG = 3, /* the line has over 79 bytes, its end not counted */
     GLOBE_BAD_BYTE = 4,      /* the data line has a byte that is neither 32 to 126 nor a tab */
     GLOBE_SYNTAX = 5,        /* the data line is no statement, or breaks one */
-    GLOBE_NUMBER = 6,        /* a number has too many digits, or too large a power of ten */
+    GLOBE_NUMBER = 6,        /* too many digits, or a power of ten beyond 22 or -22, also of 0 */
     GLOBE_NO_ROOM = 7,       /* held and new exceed 16 texts, 512 statements or 3,072 values */
     GLOBE_NOT_HELD = 8,      /* the label is not held */
     GLOBE_EPOCH = 9,         /* the epoch is not finite, or over 157,788,000,000 s from J2000 */
@@ -85,8 +89,8 @@ typedef struct {
 
 /*
  * An orientation: right ascension ra and declination dec of the north pole and the prime meridian
- * w, in degrees, ra and w from 0 up to 360, and the matrix from inertial to body-fixed axes, row by
- * row.
+ * w, in degrees, and the matrix from inertial to body-fixed axes, row by row. ra and w are at least
+ * 0 and below 360, which is never answered.
  */
 typedef struct {
     uint32_t number, line;

@@ -57,7 +57,8 @@ pub struct globe_counts {
     pub values: u32,
 }
 
-/// Pole, meridian and the matrix from inertial to body-fixed axes.
+/// Pole, meridian and the matrix from inertial to body-fixed axes; all zeros if the number is a
+/// refusal's.
 #[repr(C)]
 #[derive(Clone, Copy, Debug, PartialEq)]
 pub struct globe_oriented {
@@ -77,7 +78,7 @@ pub struct globe_oriented {
     pub m33: f64,
 }
 
-/// Three radii.
+/// Three radii; all zeros if the number is a refusal's.
 #[repr(C)]
 #[derive(Clone, Copy, Debug, PartialEq)]
 pub struct globe_axes {

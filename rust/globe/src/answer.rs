@@ -3,11 +3,11 @@
 /// How a body is oriented.
 #[derive(Clone, Copy, Debug, PartialEq)]
 pub struct Orientation {
-    /// The right ascension of the north pole in degrees, from 0 up to 360.
+    /// The right ascension of the north pole in degrees, at least 0 and below 360.
     pub ra: f64,
     /// The declination of the north pole in degrees.
     pub dec: f64,
-    /// The prime meridian in degrees, from 0 up to 360.
+    /// The prime meridian in degrees, at least 0 and below 360.
     pub w: f64,
     /// The matrix from inertial to body-fixed axes, row by row.
     pub matrix: [[f64; 3]; 3],

@@ -1,5 +1,6 @@
 //! Where the Sun, the planets and their satellites point, from SPICE text PCK kernels or from a
-//! built-in table. The answers are those of the proved library, to the last bit.
+//! built-in table. The answers are those of the proved library, to the last bit, as long as the
+//! program rounds to nearest and does not flush small numbers to zero, as Rust has it.
 //!
 //! ```
 //! let kernel = "

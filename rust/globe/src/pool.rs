@@ -35,7 +35,7 @@ impl Pool {
     }
 
     /// Memory that was kept elsewhere, as it is. What is no pool, or no longer one, is refused at
-    /// the first call.
+    /// the first call. All zeros, of a pool's size, are an empty pool.
     ///
     /// ```
     /// use globe::{Pool, Refusal};
@@ -43,6 +43,9 @@ impl Pool {
     /// pool.load(7, "\\begindata\nX = 1")?;
     /// let kept: Box<[u64]> = pool.words().into();
     /// assert_eq!(Pool::from_words(kept).totals(), pool.totals());
+    ///
+    /// let zeros = Pool::from_words(vec![0; pool.words().len()].into());
+    /// assert_eq!(zeros.totals()?.texts, 0);
     ///
     /// let short = Pool::from_words(Box::new([0; 3]));
     /// assert_eq!(short.totals().unwrap_err().refusal, Refusal::DamagedPool);

@@ -137,7 +137,7 @@ impl Refusal {
             Refusal::Number => {
                 "the line has a number that cannot be read exactly; its digits without the point \
                  make at most 9007199254740992, and its exponent less the digits after the point \
-                 is from -22 to 22: shorten it to 15 digits, or move its point"
+                 is from -22 to 22, for a zero too: shorten it to 15 digits, or move its point"
             }
             Refusal::NoRoom => {
                 "the pool has no room for the text: it holds 16 texts, 512 statements and 3,072 \

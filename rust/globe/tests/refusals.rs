@@ -32,6 +32,8 @@ fn of_loads() {
     assert_eq!(refused(&mut pool, 2, open), at(Refusal::Syntax, 3));
     let number = "\\begindata\nX = ( 1E23";
     assert_eq!(refused(&mut pool, 2, number), at(Refusal::Number, 2));
+    let zero = "\\begindata\nX = 0E-23";
+    assert_eq!(refused(&mut pool, 2, zero), at(Refusal::Number, 2));
     let many = format!("\\begindata\n{}", "X = 1\n".repeat(513));
     assert_eq!(refused(&mut pool, 2, &many), at(Refusal::NoRoom, 0));
 }
