@@ -20,9 +20,9 @@ use Rattle.layout.proofs.Areas.{length-heads, length-names}
 use Rattle.layout.proofs.Sound.{Named, Sound}
 use Rattle.layout.proofs.Legal.{Fair}
 use Rattle.layout.proofs.Holds.{program-decode, decode-legal, decode-bounded}
-use Rattle.listing.specs.Order.{inserted, names}
+use Rattle.order.specs.Order.{inserted, names}
 use Rattle.listing.specs.Listing.{namesIn, valuesOf}
-use Rattle.listing.specs.Places.{Legible, nameCount, wordsAt, cutNames, ordered}
+use Rattle.order.specs.Places.{Legible, nameCount, wordsAt, cutNames, ordered}
 use Rattle.listing.proofs.Together.{each-value}
 
 -- ---- names

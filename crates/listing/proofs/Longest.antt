@@ -14,13 +14,13 @@ use Rattle.layout.proofs.Legal.{Fair}
 use Rattle.layout.proofs.Names.{legible-of}
 use Rattle.layout.proofs.Holds.{decode-legal, decode-fits}
 use Rattle.variables.specs.Variables.{variable}
-use Rattle.print.specs.Digits.{digitOf, digits}
-use Rattle.listing.specs.Figures.{decimal, bits}
-use Rattle.listing.specs.Listing.{VARIABLES, VALUES, LINE, REFUSED, entry, namesIn, valuesOf, counts, bitLines, shown}
-use Rattle.listing.specs.Pen.{phrase}
+use Rattle.pen.specs.Digits.{digitOf, digits}
+use Rattle.pen.specs.Figures.{decimal, bits}
+use Rattle.listing.specs.Listing.{VARIABLES, VALUES, LINE, REFUSED, namesIn, valuesOf, counts, bitLines, shown}
+use Rattle.pen.specs.Pen.{phrase, entry}
 use Rattle.listing.specs.Lists.{SIZE}
-use Rattle.listing.proofs.Decimals.{length-decimalUpTo}
-use Rattle.listing.proofs.Rising.{each-names, length-names}
+use Rattle.pen.proofs.Decimals.{length-decimalUpTo}
+use Rattle.order.proofs.Rising.{each-names, length-names}
 use Rattle.listing.proofs.Together.{values-few}
 
 -- a line of a word and a number: a space, at most twenty figures, and its end

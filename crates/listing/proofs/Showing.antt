@@ -21,13 +21,14 @@ use Rattle.layout.specs.Damage.{Framed}
 use Rattle.layout.proofs.Sound.{Sound, sound-of}
 use Rattle.layout.proofs.Holds.{decode-fits}
 use Rattle.listing.specs.Listing as listing
-use Rattle.listing.specs.Listing.{VARIABLES, entry, namesIn, valuesOf, counts, bitLines, shown}
+use Rattle.listing.specs.Listing.{VARIABLES, namesIn, valuesOf, counts, bitLines, shown}
 use Rattle.words.specs.Placed.{Room, Writes}
-use Rattle.listing.specs.Places.{Places, Ordering, Orders}
+use Rattle.order.specs.Places.{Places, Ordering, Orders}
+use Rattle.pen.specs.Pen.{entry}
 use Rattle.listing.specs.Shows.{listed, doublesOf, bitsOf, Counting, Counts, Printing, Showing}
 use Rattle.listing.specs.declared.show.Ends.{Ends}
-use Rattle.listing.proofs.Raising.{take-over-through}
-use Rattle.listing.proofs.Named.{length-namesAt}
+use Rattle.order.proofs.Raising.{take-over-through}
+use Rattle.order.proofs.Named.{length-namesAt}
 use Rattle.words.proofs.Placed.{room-first, room-then, writes-then}
 use Rattle.listing.proofs.Together.{values-few}
 use Rattle.listing.proofs.Held.{name-count, legible, ordered-names, small-values, word-values}

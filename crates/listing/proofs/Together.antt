@@ -11,10 +11,10 @@ use Rattle.plain.proofs.Each.{Each, each-append}
 use Rattle.words.proofs.Same.{same-equal}
 use Rattle.layout.specs.State.{Pool, program, flat, valuesOf, values}
 use Rattle.variables.specs.Variables.{has, assigns, any, since, gives, variable}
-use Rattle.listing.specs.Order.{before}
+use Rattle.order.specs.Order.{before}
 use Rattle.listing.specs.Listing.{namesIn}
 use Rattle.listing.specs.Listing as listing
-use Rattle.listing.proofs.Rising.{Rising, rising-names, before-not-equal}
+use Rattle.order.proofs.Rising.{Rising, rising-names, before-not-equal}
 
 -- ---- one variable
 

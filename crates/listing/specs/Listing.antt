@@ -10,8 +10,9 @@ use Rattle.variables.specs.Variables.{variable}
 use Rattle.pool.specs.Load.{textOf, with, loadAnswer}
 use Rattle.pool.specs.declared.reply.Reply.{Reply}
 use Rattle.pool.specs.declared.reply.Reply.the-variants.{Done, Refused}
-use Rattle.listing.specs.Order.{names}
-use Rattle.listing.specs.Figures.{decimal, bits}
+use Rattle.order.specs.Order.{names}
+use Rattle.pen.specs.Figures.{decimal, bits}
+use Rattle.pen.specs.Pen.{entry}
 
 -- variables, values, refused, line
 abbrev pub VARIABLES : List ℕ
@@ -25,10 +26,6 @@ REFUSED = 114 ∷ 101 ∷ 102 ∷ 117 ∷ 115 ∷ 101 ∷ 100 ∷ []
 
 abbrev pub LINE : List ℕ
 LINE = 108 ∷ 105 ∷ 110 ∷ 101 ∷ []
-
--- a word and a number on a line
-abbrev pub entry : List ℕ → ℕ → List ℕ
-entry word n = word ++ (SPACE ∷ decimal n ++ (LF ∷ []))
 
 -- the label under which the text is loaded
 abbrev pub LABEL : ℕ

@@ -15,9 +15,10 @@ use Rattle.variables.specs.Variables.{variable}
 use Rattle.variables.specs.Found.{doubles}
 use Rattle.variables.specs.declared.variable.Found.{Found}
 use Rattle.variables.specs.declared.variable.Found.the-variants.{Count, TooMany, Absent}
-use Rattle.listing.specs.Listing.{entry, valuesOf, counts, bitLines, shown}
+use Rattle.pen.specs.Pen.{entry}
+use Rattle.listing.specs.Listing.{valuesOf, counts, bitLines, shown}
 use Rattle.words.specs.Placed.{Room, Writes}
-use Rattle.listing.specs.Places.{Places, namesAt}
+use Rattle.order.specs.Places.{Places, namesAt}
 use Rattle.listing.specs.declared.show.Ends.{Ends}
 
 -- ---- a variable's values, written after those before them

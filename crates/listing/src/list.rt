@@ -1,13 +1,20 @@
 // The listing of a text: it is loaded into an empty pool, and the pool is shown; or it is refused.
-use crate::pen::write_refusal;
 use crate::show::show;
+use pen::write_byte;
+use pen::write_entry;
+use pen::write_phrase;
 use pool::empty::make_empty;
 use pool::load::load;
 use pool::reply::Reply;
 use refusal::number;
+ghost use mathlib.Core.List.{_∷_, _++_};
 ghost use mathlib.Core.Path.{_≡_};
 ghost use lib.ListN.{length};
+ghost use Rattle.plain.specs.Bytes.{SPACE};
+ghost use Rattle.words.specs.Placed.{Room, Writes};
 ghost use Rattle.layout.specs.Limits.{WORDS};
+ghost use Rattle.pen.specs.Pen.{phrase, entry};
+ghost use Rattle.listing.specs.Listing.{REFUSED, LINE};
 ghost use Rattle.listing.specs.Lists.{Lists};
 
 // The label under which the text is loaded.
@@ -24,6 +31,16 @@ pub fn list(text: &[u8], out: &mut [u8; 79931]) -> usize
         Reply::Done => show(&memory, out),
         Reply::Refused(refusal, line) => write_refusal(out, number(refusal) as u64, line as u64),
     }
+}
+
+// "Refused, it prints `refused N line L`."
+fn write_refusal(out: &mut [u8], number: u64, line: u64) -> usize
+    requires { ⌜ Room 0 (phrase REFUSED number ++ (SPACE ∷ entry LINE line)) (now out) ⌝ }
+    ensures { λ r. ⌜ Writes 0 (phrase REFUSED number ++ (SPACE ∷ entry LINE line)) (now (out .entry)) r (now (out .exit)) ⌝ }
+{
+    let spaced = write_phrase(out, 0, b"refused", number);
+    let at = write_byte(out, spaced, b' ');
+    write_entry(out, at, b"line", line)
 }
 
 // Room for a pool.

@@ -1,8 +1,5 @@
 // The listing of the text on standard input, on standard output: document 01, "The listing".
 mod list;
-mod names;
-mod order;
-mod pen;
 mod show;
 
 use libc::STDIN_FILENO;

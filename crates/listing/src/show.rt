@@ -1,11 +1,11 @@
 // "The variables in byte order of names, each with its count, then how many values these variables have together and the bits of
 // each, in the same order": of an undamaged pool.
-use crate::names::name_at;
-use crate::names::spread;
-use crate::order::order;
-use crate::pen::write_entry;
-use crate::pen::write_line;
 use layout::area::names_of;
+use order::names::name_at;
+use order::names::spread;
+use order::order;
+use pen::write_entry;
+use pen::write_line;
 use text::classes::Class;
 use text::classes::run;
 use variables::variable::Found;

@@ -1,7 +1,6 @@
 // What the programs print, on standard output: bytes, numbers and doubles.
-pub mod digits;
-
 use libc::STDOUT_FILENO;
+use pen::digits;
 
 // The bytes as they stand.
 pub fn bytes(text: &[u8]) {

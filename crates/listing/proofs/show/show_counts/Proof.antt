@@ -15,10 +15,10 @@ use Rattle.layout.proofs.Sound.{sound-of}
 use Rattle.variables.specs.Variables.{variable}
 use Rattle.listing.specs.Listing.{counts, valuesOf}
 use Rattle.words.specs.Placed.{Room, Writes}
-use Rattle.listing.specs.Places.{nameCount, nameAt, wordsAt}
+use Rattle.order.specs.Places.{nameCount, nameAt, wordsAt}
 use Rattle.listing.specs.Shows.{line, size, listed, Adding, Adds, Counting, Counts}
 use Rattle.listing.specs.declared.show.Ends.{Ends}
-use Rattle.listing.proofs.Named.{length-wordsAt, length-namesAt, name-held, place-held}
+use Rattle.order.proofs.Named.{length-wordsAt, length-namesAt, name-held, place-held}
 use Rattle.words.proofs.Placed.{writes-length}
 use Rattle.listing.proofs.Writing.{writes-none, writes-all, room-next, writes-next, flat-next, flat-within}
 use Rattle.listing.proofs.show.show_counts.Statement.{statement}

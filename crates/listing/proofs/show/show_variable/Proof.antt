@@ -13,11 +13,11 @@ use Rattle.words.specs.Over.{over}
 use Rattle.layout.specs.Names.{bytes, unpacked}
 use Rattle.layout.specs.Memory.{decode}
 use Rattle.variables.specs.Found.{doubles}
-use Rattle.listing.specs.Listing.{entry}
+use Rattle.pen.specs.Pen.{entry}
 use Rattle.words.specs.Placed.{Room, Writes}
 use Rattle.listing.specs.Shows.{size, Taking, Takes, Adding, Adds}
 use Rattle.listing.specs.declared.show.Ends.{Ends}
-use Rattle.listing.proofs.Packed.{length-bytes}
+use Rattle.order.proofs.Packed.{length-bytes}
 use Rattle.listing.proofs.show.show_variable.Statement.{statement}
 use Rattle.listing.proofs.show.show_variable.Tie as tie
 

@@ -11,7 +11,7 @@ use Rattle.plain.specs.Bytes.{LF}
 use Rattle.plain.proofs.Each.{each-at}
 use Rattle.words.proofs.Each.{all-each}
 use Rattle.layout.specs.State.{flat}
-use Rattle.listing.specs.Figures.{bits}
+use Rattle.pen.specs.Figures.{bits}
 use Rattle.listing.specs.Listing.{bitLines}
 use Rattle.words.specs.Placed.{Room, Writes}
 use Rattle.listing.specs.Shows.{bitsOf, Printing}
