@@ -3,6 +3,7 @@
 use Prim.Native.Nat.{ℕ, _+_}
 use mathlib.Core.List.{List, [], _∷_, _++_}
 use lib.ListN.{length}
+use Rattle.plain.specs.Ascii.{ascii}
 use Rattle.plain.specs.Bytes.{LF, SPACE}
 use Rattle.layout.specs.State.{Pool, program, flat}
 use Rattle.pool.specs.Replies.{replyNumber, replyLine}
@@ -14,18 +15,18 @@ use Rattle.order.specs.Order.{names}
 use Rattle.pen.specs.Figures.{decimal, bits}
 use Rattle.pen.specs.Pen.{entry}
 
--- variables, values, refused, line
+-- the words of its lines
 abbrev pub VARIABLES : List ℕ
-VARIABLES = 118 ∷ 97 ∷ 114 ∷ 105 ∷ 97 ∷ 98 ∷ 108 ∷ 101 ∷ 115 ∷ []
+VARIABLES = ascii "variables"
 
 abbrev pub VALUES : List ℕ
-VALUES = 118 ∷ 97 ∷ 108 ∷ 117 ∷ 101 ∷ 115 ∷ []
+VALUES = ascii "values"
 
 abbrev pub REFUSED : List ℕ
-REFUSED = 114 ∷ 101 ∷ 102 ∷ 117 ∷ 115 ∷ 101 ∷ 100 ∷ []
+REFUSED = ascii "refused"
 
 abbrev pub LINE : List ℕ
-LINE = 108 ∷ 105 ∷ 110 ∷ 101 ∷ []
+LINE = ascii "line"
 
 -- the label under which the text is loaded
 abbrev pub LABEL : ℕ
