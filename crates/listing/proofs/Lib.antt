@@ -7,3 +7,4 @@ mod Held
 mod Showing
 mod Longest
 mod Listed
+mod Reading

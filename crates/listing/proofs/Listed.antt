@@ -13,7 +13,6 @@ use Rattle.refusal.specs.Numbers.{numberOf}
 use Rattle.refusal.specs.declared.Refusal.{Refusal}
 use Rattle.refusal.specs.declared.Refusal.the-variants.{DamagedPool}
 use Rattle.words.specs.Over.{over}
-use Rattle.words.proofs.Over.{length-over}
 use Rattle.layout.specs.State.{Pool}
 use Rattle.layout.specs.Limits.{WORDS}
 use Rattle.layout.specs.Memory.{decode}
@@ -125,8 +124,3 @@ listing-fits text = by (loadReply LABEL text empty) refl
         (shown-fits memory (sound-of memory (undamaged text first empty memory _ _ n E L)))
     by (Refused q line) d =
         subst (λ (l : List ℕ). length l ≤ SIZE) (is-refused text first empty memory _ _ n E L q line d (numberOf q) refl) (refusal-fits (numberOf q) line)
-
--- and what is answered is in the output
-pub within-output : {text before : List ℕ} {r : ℕ} {after : List ℕ} → Lists text before r after → SIZE ≡ length before → r ≤ length after
-within-output {text} {before} l n =
-    omega (arith, l .size, listing-fits text, ap length (l .output), length-over 0 (listing text) before)

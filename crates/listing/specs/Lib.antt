@@ -1,4 +1,5 @@
 -- Document 01, "The listing".
 pub mod Listing
+pub mod Input
 pub mod Shows
 pub mod Lists

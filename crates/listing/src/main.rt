@@ -1,18 +1,21 @@
 // The listing of the text on standard input, on standard output: document 01, "The listing".
+mod answer;
+mod input;
 mod list;
 mod show;
 
+use answer::answer;
+use input::read;
 use libc::STDIN_FILENO;
-use list::list;
 ghost use mathlib.Core.Path.{_≡_};
 ghost use lib.ListN.{length};
 ghost use Rattle.listing.specs.Lists.{SIZE};
 
 fn main() {
     let mut room = text_room();
-    let count = io::read_full(STDIN_FILENO, &mut room);
+    let input = read(STDIN_FILENO, &mut room);
     let mut out = listing_room();
-    let end = list(&room[..count], &mut out);
+    let end = answer(&room, input, &mut out);
     print::bytes(&out[..end]);
 }
 

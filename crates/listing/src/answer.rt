@@ -1,0 +1,17 @@
+// What the program prints: the listing of the text that was read, or that it could not be read.
+use crate::input::Input;
+use crate::list::list;
+use words::bytes::append;
+ghost use Rattle.words.specs.Placed.{Writes};
+ghost use Rattle.listing.specs.Input.{Within, printed};
+
+// The bytes from the output's start on; how many they are.
+pub fn answer(room: &[u8], input: Input, out: &mut [u8; 79931]) -> usize
+    requires { ⌜ Within input (now room) ⌝ }
+    ensures { λ r. ⌜ Writes 0 (printed (now (room .entry)) input) (now (out .entry)) r (now (out .exit)) ⌝ }
+{
+    match input {
+        Input::Bytes(count) => list(&room[..count], out),
+        Input::Unreadable => append(b"unreadable\n", out, 0),
+    }
+}
