@@ -1,10 +1,17 @@
 -- `weigh` meets its contract: half of an even count is at least each of the three exactly when the whole is at least twice the longest.
 -- Assumes nothing.
-use Prim.Native.Nat.{_*_, _%_, max}
+use mathlib.Core.Path.{_≡_}
+use Prim.Native.Nat.{ℕ, _*_, _%_, _<_, max}
 use native.Mathlib.Omega.{arith}
 use borrow.Author.Tests.{eq-eqb, ne-eqb, le-leb, lt-leb}
+use Rattle.wanted.specs.Steps.{weighed}
+use Rattle.wanted.specs.declared.nutation.Terms.the-variants as T
 use Rattle.wanted.proofs.nutation.weigh.Statement.{statement}
 use Rattle.wanted.proofs.nutation.weigh.Tie as tie
+
+-- an even number of angles, below twice the longest
+angles-too-few : (angles ra dec pm : ℕ) → angles % 2 ≡ 0 → angles < 2 * max ra (max dec pm) → T.Miscounted ≡ weighed angles ra dec pm
+angles-too-few angles ra dec pm e h = simp (eq-eqb (angles % 2) 0 e, lt-leb (2 * max ra (max dec pm)) angles h)
 
 returns : tie.Need-returns
 returns c =
@@ -12,19 +19,13 @@ returns c =
     simp (ne-eqb (a .angles % 2) 0 (omega arith))
 
 returns-2 : tie.Need-returns-2
-returns-2 c =
-    let a = c .before .before .args in
-    simp (eq-eqb (a .angles % 2) 0 (omega arith), lt-leb (2 * max (a .ra) (max (a .dec) (a .pm))) (a .angles) (omega arith))
+returns-2 c = let a = c .before .before .args in angles-too-few (a .angles) (a .ra) (a .dec) (a .pm) (omega arith) (omega arith)
 
 returns-3 : tie.Need-returns-3
-returns-3 c =
-    let a = c .before .before .before .args in
-    simp (eq-eqb (a .angles % 2) 0 (omega arith), lt-leb (2 * max (a .ra) (max (a .dec) (a .pm))) (a .angles) (omega arith))
+returns-3 c = let a = c .before .before .before .args in angles-too-few (a .angles) (a .ra) (a .dec) (a .pm) (omega arith) (omega arith)
 
 returns-4 : tie.Need-returns-4
-returns-4 c =
-    let a = c .before .before .before .before .args in
-    simp (eq-eqb (a .angles % 2) 0 (omega arith), lt-leb (2 * max (a .ra) (max (a .dec) (a .pm))) (a .angles) (omega arith))
+returns-4 c = let a = c .before .before .before .before .args in angles-too-few (a .angles) (a .ra) (a .dec) (a .pm) (omega arith) (omega arith)
 
 returns-5 : tie.Need-returns-5
 returns-5 c =
