@@ -1,4 +1,4 @@
--- "So that no evaluation overflows": every result on the way to a wrapped angle, and to a sine and a cosine. Definitions only.
+-- "so that no evaluation overflows": every result on the way to a wrapped angle, and to a sine and a cosine. Definitions only.
 use mathlib.Core.Path.{_≡_}
 use mathlib.Core.Bool.{true}
 use mathlib.Core.List.{List, [], _∷_}

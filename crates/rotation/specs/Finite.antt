@@ -1,4 +1,4 @@
--- "Every held value finite and of size below 2^200, so that no evaluation overflows": what is evaluated, and what is answered. Definitions
+-- "every held value finite and of size below 2^200, so that no evaluation overflows": what is evaluated, and what is answered. Definitions
 -- only.
 use Prim.Native.Nat.{ℕ, _≤_, _<_}
 use mathlib.Core.Path.{_≡_}

@@ -1,4 +1,4 @@
--- "So that no evaluation overflows": every result on the way to an orientation is finite. Wrap makes a 0 of a NaN and of an infinity, so that
+-- "so that no evaluation overflows": every result on the way to an orientation is finite. Wrap makes a 0 of a NaN and of an infinity, so that
 -- the twelve numbers alone do not tell. Definitions only.
 use Prim.Native.Nat.{ℕ, _+_, _*_, _≤_, _<_}
 use mathlib.Core.Path.{_≡_}
