@@ -25,10 +25,11 @@ use Rattle.pool.specs.declared.reply.Reply.{Reply}
 use Rattle.pool.specs.declared.reply.Reply.the-variants.{Done, Refused}
 use Rattle.pool.proofs.Emptying.{empty-sound, empty-decode}
 use Rattle.pool.proofs.Loaded.{load-sound, load-decode}
-use Rattle.listing.specs.Listing.{LABEL, LINE, REFUSED, loaded, shown, told, listing}
+use Rattle.shown.specs.Shown.{shown}
+use Rattle.listing.specs.Listing.{LABEL, LINE, REFUSED, loaded, told, listing}
 use Rattle.words.specs.Placed.{Room, Writes}
 use Rattle.pen.specs.Pen.{phrase, entry}
-use Rattle.listing.specs.Shows.{Showing}
+use Rattle.shown.specs.Shows.{Showing}
 use Rattle.listing.specs.Lists.{SIZE, Lists}
 use Rattle.listing.proofs.Longest.{shown-fits, refusal-fits}
 

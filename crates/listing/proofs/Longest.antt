@@ -16,12 +16,13 @@ use Rattle.layout.proofs.Holds.{decode-legal, decode-fits}
 use Rattle.variables.specs.Variables.{variable}
 use Rattle.pen.specs.Digits.{digitOf, digits}
 use Rattle.pen.specs.Figures.{decimal, bits}
-use Rattle.listing.specs.Listing.{VARIABLES, VALUES, LINE, REFUSED, namesIn, valuesOf, counts, bitLines, shown}
+use Rattle.shown.specs.Shown.{VARIABLES, VALUES, namesIn, valuesOf, counts, bitLines, shown}
+use Rattle.listing.specs.Listing.{LINE, REFUSED}
 use Rattle.pen.specs.Pen.{phrase, entry}
 use Rattle.listing.specs.Lists.{SIZE}
 use Rattle.pen.proofs.Decimals.{length-decimalUpTo}
 use Rattle.order.proofs.Rising.{each-names, length-names}
-use Rattle.listing.proofs.Together.{values-few}
+use Rattle.shown.proofs.Together.{values-few}
 
 -- a line of a word and a number: a space, at most twenty figures, and its end
 length-entry : (word : List ℕ) (n : ℕ) → length (entry word n) ≤ length word + 22

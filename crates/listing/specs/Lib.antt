@@ -1,5 +1,4 @@
 -- Document 01, "The listing".
 pub mod Listing
 pub mod Input
-pub mod Shows
 pub mod Lists

@@ -1,5 +1,4 @@
 // The listing of a text: it is loaded into an empty pool, and the pool is shown; or it is refused.
-use crate::show::show;
 use pen::write_byte;
 use pen::write_entry;
 use pen::write_phrase;
@@ -7,6 +6,7 @@ use pool::empty::make_empty;
 use pool::load::load;
 use pool::reply::Reply;
 use refusal::number;
+use shown::show;
 ghost use mathlib.Core.List.{_∷_, _++_};
 ghost use mathlib.Core.Path.{_≡_};
 ghost use lib.ListN.{length};

@@ -2,7 +2,6 @@
 mod answer;
 mod input;
 mod list;
-mod show;
 
 use answer::answer;
 use input::read;

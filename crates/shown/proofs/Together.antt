@@ -12,8 +12,8 @@ use Rattle.words.proofs.Same.{same-equal}
 use Rattle.layout.specs.State.{Pool, program, flat, valuesOf, values}
 use Rattle.variables.specs.Variables.{has, assigns, any, since, gives, variable}
 use Rattle.order.specs.Order.{before}
-use Rattle.listing.specs.Listing.{namesIn}
-use Rattle.listing.specs.Listing as listing
+use Rattle.shown.specs.Shown.{namesIn}
+use Rattle.shown.specs.Shown as show
 use Rattle.order.proofs.Rising.{Rising, rising-names, before-not-equal}
 
 -- ---- one variable
@@ -83,8 +83,8 @@ together ss [] = omega arith
 together ss (k ∷ ks) =
     omega (arith, length-append (given k (since k ss)) (flat (λ n. given n (since n ss)) ks), since-few k ss, together ss ks)
 
-pub values-few : (s : Pool) → length (listing.valuesOf s (namesIn s)) ≤ length (values s)
-unfolding listing.valuesOf variable
+pub values-few : (s : Pool) → length (show.valuesOf s (namesIn s)) ≤ length (values s)
+unfolding show.valuesOf variable
 values-few s = omega (arith, together (program s) (namesIn s), sum-few (program s) (namesIn s) (rising-names (program s)))
 
 -- ---- no others
@@ -116,8 +116,8 @@ module _ (P : ℕ → Type 0) where
   each-listed Q q [] = tt
   each-listed Q q (n ∷ ns) = (q n, each-listed Q q ns)
 
-  pub each-value : (s : Pool) (ns : List (List ℕ)) → Each (λ x. Each P (x .values)) (program s) → Each P (listing.valuesOf s ns)
-  unfolding listing.valuesOf variable
+  pub each-value : (s : Pool) (ns : List (List ℕ)) → Each (λ x. Each P (x .values)) (program s) → Each P (show.valuesOf s ns)
+  unfolding show.valuesOf variable
   each-value s ns e =
       each-flat (λ n. flat (gives n) (since n (program s))) ns
       (each-listed (λ n. Each P (flat (gives n) (since n (program s)))) (λ n. each-flat (gives n) (since n (program s)) (each-given n (since n (program s)) (each-since (λ x. Each P (x .values)) n (program s) e))) ns)

@@ -16,10 +16,10 @@ use Rattle.variables.specs.Found.{doubles}
 use Rattle.variables.specs.declared.variable.Found.{Found}
 use Rattle.variables.specs.declared.variable.Found.the-variants.{Count, TooMany, Absent}
 use Rattle.pen.specs.Pen.{entry}
-use Rattle.listing.specs.Listing.{valuesOf, counts, bitLines, shown}
+use Rattle.shown.specs.Shown.{valuesOf, counts, bitLines, shown}
 use Rattle.words.specs.Placed.{Room, Writes}
 use Rattle.order.specs.Places.{Places, namesAt}
-use Rattle.listing.specs.declared.show.Ends.{Ends}
+use Rattle.shown.specs.declared.Ends.{Ends}
 
 -- ---- a variable's values, written after those before them
 

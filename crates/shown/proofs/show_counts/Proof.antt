@@ -13,16 +13,16 @@ use Rattle.layout.specs.Names.{unpacked}
 use Rattle.layout.specs.Memory.{nameWords, decode}
 use Rattle.layout.proofs.Sound.{sound-of}
 use Rattle.variables.specs.Variables.{variable}
-use Rattle.listing.specs.Listing.{counts, valuesOf}
+use Rattle.shown.specs.Shown.{counts, valuesOf}
 use Rattle.words.specs.Placed.{Room, Writes}
 use Rattle.order.specs.Places.{nameCount, nameAt, wordsAt}
-use Rattle.listing.specs.Shows.{line, size, listed, Adding, Adds, Counting, Counts}
-use Rattle.listing.specs.declared.show.Ends.{Ends}
+use Rattle.shown.specs.Shows.{line, size, listed, Adding, Adds, Counting, Counts}
+use Rattle.shown.specs.declared.Ends.{Ends}
 use Rattle.order.proofs.Named.{length-wordsAt, length-namesAt, name-held, place-held}
 use Rattle.words.proofs.Placed.{writes-length}
-use Rattle.listing.proofs.Writing.{writes-none, writes-all, room-next, writes-next, flat-next, flat-within}
-use Rattle.listing.proofs.show.show_counts.Statement.{statement}
-use Rattle.listing.proofs.show.show_counts.Tie as tie
+use Rattle.shown.proofs.Writing.{writes-none, writes-all, room-next, writes-next, flat-next, flat-within}
+use Rattle.shown.proofs.show_counts.Statement.{statement}
+use Rattle.shown.proofs.show_counts.Tie as tie
 
 -- a variable's values
 abbrev valued : (m name : List ℕ) → List ℕ

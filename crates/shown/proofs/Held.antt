@@ -21,9 +21,9 @@ use Rattle.layout.proofs.Sound.{Named, Sound}
 use Rattle.layout.proofs.Legal.{Fair}
 use Rattle.layout.proofs.Holds.{program-decode, decode-legal, decode-bounded}
 use Rattle.order.specs.Order.{inserted, names}
-use Rattle.listing.specs.Listing.{namesIn, valuesOf}
+use Rattle.shown.specs.Shown.{namesIn, valuesOf}
 use Rattle.order.specs.Places.{Legible, nameCount, wordsAt, cutNames, ordered}
-use Rattle.listing.proofs.Together.{each-value}
+use Rattle.shown.proofs.Together.{each-value}
 
 -- ---- names
 

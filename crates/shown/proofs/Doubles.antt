@@ -12,7 +12,7 @@ use Rattle.words.specs.Halves.{all}
 use Rattle.plain.proofs.Each.{Each}
 use Rattle.words.proofs.Each.{Words}
 use Rattle.layout.specs.Damage.{exponentField, small}
-use Rattle.listing.specs.Shows.{bitsOf}
+use Rattle.shown.specs.Shows.{bitsOf}
 
 odd-number : (d : ℕ) (s : Bool) (q k l : ℕ) → isNan (odd d s q k l) ≡ false
 unfolding odd isNan

@@ -22,10 +22,10 @@ use Rattle.variables.specs.Found.{doubles, foundIn, filled, Finds}
 use Rattle.variables.specs.declared.variable.Found.{Found}
 use Rattle.variables.specs.declared.variable.Found.the-variants.{Count, TooMany, Absent}
 use Rattle.variables.proofs.Presence.{absent-empty}
-use Rattle.listing.specs.Shows.{countOf, size, Taking, Takes}
-use Rattle.listing.proofs.Lending.{put-end}
-use Rattle.listing.proofs.show.take_values.Statement.{statement}
-use Rattle.listing.proofs.show.take_values.Tie as tie
+use Rattle.shown.specs.Shows.{countOf, size, Taking, Takes}
+use Rattle.shown.proofs.Lending.{put-end}
+use Rattle.shown.proofs.take_values.Statement.{statement}
+use Rattle.shown.proofs.take_values.Tie as tie
 
 module _ (name : List ℕ) (room : ℕ) (s : Pool) (h : length (variable name s) ≤ room) where
   count-found : countOf (foundIn name room s) ≡ length (variable name s)

@@ -15,11 +15,11 @@ use Rattle.layout.specs.Memory.{decode}
 use Rattle.variables.specs.Found.{doubles}
 use Rattle.pen.specs.Pen.{entry}
 use Rattle.words.specs.Placed.{Room, Writes}
-use Rattle.listing.specs.Shows.{size, Taking, Takes, Adding, Adds}
-use Rattle.listing.specs.declared.show.Ends.{Ends}
+use Rattle.shown.specs.Shows.{size, Taking, Takes, Adding, Adds}
+use Rattle.shown.specs.declared.Ends.{Ends}
 use Rattle.order.proofs.Packed.{length-bytes}
-use Rattle.listing.proofs.show.show_variable.Statement.{statement}
-use Rattle.listing.proofs.show.show_variable.Tie as tie
+use Rattle.shown.proofs.show_variable.Statement.{statement}
+use Rattle.shown.proofs.show_variable.Tie as tie
 
 -- as many bytes written as there are leave none of the first
 over-whole : (xs m : List ℕ) → length xs ≡ length m → over 0 xs m ≡ xs

@@ -20,19 +20,19 @@ use Rattle.layout.specs.Memory.{nameWords, decode}
 use Rattle.layout.specs.Damage.{Framed}
 use Rattle.layout.proofs.Sound.{Sound, sound-of}
 use Rattle.layout.proofs.Holds.{decode-fits}
-use Rattle.listing.specs.Listing as listing
-use Rattle.listing.specs.Listing.{VARIABLES, namesIn, valuesOf, counts, bitLines, shown}
+use Rattle.shown.specs.Shown as show
+use Rattle.shown.specs.Shown.{VARIABLES, namesIn, valuesOf, counts, bitLines, shown}
 use Rattle.words.specs.Placed.{Room, Writes}
 use Rattle.order.specs.Places.{Places, Ordering, Orders}
 use Rattle.pen.specs.Pen.{entry}
-use Rattle.listing.specs.Shows.{listed, doublesOf, bitsOf, Counting, Counts, Printing, Showing}
-use Rattle.listing.specs.declared.show.Ends.{Ends}
+use Rattle.shown.specs.Shows.{listed, doublesOf, bitsOf, Counting, Counts, Printing, Showing}
+use Rattle.shown.specs.declared.Ends.{Ends}
 use Rattle.order.proofs.Raising.{take-over-through}
 use Rattle.order.proofs.Named.{length-namesAt}
 use Rattle.words.proofs.Placed.{room-first, room-then, writes-then}
-use Rattle.listing.proofs.Together.{values-few}
-use Rattle.listing.proofs.Held.{name-count, legible, ordered-names, small-values, word-values}
-use Rattle.listing.proofs.Doubles.{bits-back, numbers}
+use Rattle.shown.proofs.Together.{values-few}
+use Rattle.shown.proofs.Held.{name-count, legible, ordered-names, small-values, word-values}
+use Rattle.shown.proofs.Doubles.{bits-back, numbers}
 
 -- ---- the parts of what is shown
 
@@ -47,7 +47,7 @@ module _ (s : Pool) where
   held = valuesOf s (namesIn s)
 
   abbrev middle : List ℕ
-  middle = entry listing.VALUES (length held)
+  middle = entry show.VALUES (length held)
 
   parts : shown s ≡ heading ++ (lines ++ (middle ++ bitLines held))
   unfolding shown
@@ -121,10 +121,10 @@ module _ (m out : List ℕ) (W : Showing m out) where
         room-middle : Room (ends .at) (middle s ++ bitLines vs) y
         room-middle = room-then (lines s) (middle s ++ bitLines vs) room-lines lined
 
-        mids : entry listing.VALUES (ends .total) ≡ middle s
-        mids = ap (entry listing.VALUES) total
+        mids : entry show.VALUES (ends .total) ≡ middle s
+        mids = ap (entry show.VALUES) total
 
-        pub room-total : Room (ends .at) (entry listing.VALUES (ends .total)) y
+        pub room-total : Room (ends .at) (entry show.VALUES (ends .total)) y
         room-total = subst (λ (l : List ℕ). Room (ends .at) l y) (sym mids) (room-first (middle s) (bitLines vs) room-middle)
 
         -- the values that were taken are the first ones
@@ -146,7 +146,7 @@ module _ (m out : List ℕ) (W : Showing m out) where
             let k : ends .total ≡ 0 + length D = total ∙ sym (length-map vs (ofBits binary64)) ∙ sym (zero-add (length D)) in
             ap₂ (λ (n : ℕ) (l : List Float). take n l) k taken ∙ take-over-through 0 D values (omega (arith, few, length-map vs (ofBits binary64)))
 
-        module _ (f : (i : ℕ) → Fits w64 (getD m i 0)) (b : ℕ) (z : List ℕ) (v : Writes (ends .at) (entry listing.VALUES (ends .total)) y b z) where
+        module _ (f : (i : ℕ) → Fits w64 (getD m i 0)) (b : ℕ) (z : List ℕ) (v : Writes (ends .at) (entry show.VALUES (ends .total)) y b z) where
           bits : bitsOf (take (ends .total) values') ≡ vs
           bits =
               ap bitsOf firsts

@@ -12,13 +12,13 @@ use Rattle.plain.proofs.Each.{each-at}
 use Rattle.words.proofs.Each.{all-each}
 use Rattle.layout.specs.State.{flat}
 use Rattle.pen.specs.Figures.{bits}
-use Rattle.listing.specs.Listing.{bitLines}
+use Rattle.shown.specs.Shown.{bitLines}
 use Rattle.words.specs.Placed.{Room, Writes}
-use Rattle.listing.specs.Shows.{bitsOf, Printing}
+use Rattle.shown.specs.Shows.{bitsOf, Printing}
 use Rattle.words.proofs.Placed.{writes-length}
-use Rattle.listing.proofs.Writing.{writes-none, writes-all, room-next, writes-next}
-use Rattle.listing.proofs.show.write_values.Statement.{statement}
-use Rattle.listing.proofs.show.write_values.Tie as tie
+use Rattle.shown.proofs.Writing.{writes-none, writes-all, room-next, writes-next}
+use Rattle.shown.proofs.write_values.Statement.{statement}
+use Rattle.shown.proofs.write_values.Tie as tie
 
 -- the line of a word
 abbrev row : ℕ → List ℕ

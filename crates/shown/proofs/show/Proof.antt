@@ -1,8 +1,8 @@
 -- `show` meets its contract: the parts of what is shown are written one after the other. Assumes nothing.
 use borrow.Author.Needs.{needs}
-use Rattle.listing.proofs.Showing.{sized, ordering, room-heading, counting, room-total, total-few, total-taken, printing, all-shown}
-use Rattle.listing.proofs.show.show.Statement.{statement}
-use Rattle.listing.proofs.show.show.Tie as tie
+use Rattle.shown.proofs.Showing.{sized, ordering, room-heading, counting, room-total, total-few, total-taken, printing, all-shown}
+use Rattle.shown.proofs.show.Statement.{statement}
+use Rattle.shown.proofs.show.Tie as tie
 
 no-places-requires : tie.Need-no-places-requires
 no-places-requires c κs = search needs

@@ -15,9 +15,9 @@ ghost use lib.ListN.{length};
 ghost use Rattle.layout.specs.Limits.{STATEMENTS, VALUES};
 ghost use Rattle.layout.specs.Names.{unpacked};
 ghost use Rattle.layout.specs.Memory.{decode};
-ghost use Rattle.listing.specs.Listing.{shown, bitLines};
+ghost use Rattle.shown.specs.Shown.{shown, bitLines};
 ghost use Rattle.words.specs.Placed.{Writes};
-ghost use Rattle.listing.specs.Shows.{countOf, Taking, Takes, Adding, Adds, listed, Counting, Counts, bitsOf, Printing, Showing};
+ghost use Rattle.shown.specs.Shows.{countOf, Taking, Takes, Adding, Adds, listed, Counting, Counts, bitsOf, Printing, Showing};
 
 // Where the next byte of the output goes, and how many values were taken.
 pub struct Ends {

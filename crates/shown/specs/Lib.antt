@@ -1,0 +1,3 @@
+-- What is shown of a pool.
+pub mod Shown
+pub mod Shows
