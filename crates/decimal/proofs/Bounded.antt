@@ -7,16 +7,16 @@ use native.Mathlib.Nat.{lt-of-le-of-lt, lt-of-lt-of-le, le-trans, one-le-pow, mu
 use native.Mathlib.Omega.{arith}
 use lib.Dec.{T, leb, lit<, lit≤}
 use lib.IntN.{ℤ, pos, negsuc, natAbs}
-use lib.Ieee.{Float, binary64, round, toBits, isNan, fits}
-use lib.Ieee.Fits.{mul-fits, div-fits, neg-fits}
+use lib.Ieee.{Float, binary64, round, toBits, isNan}
 use borrow.Author.Tests.{leb-true}
 use Rattle.plain.specs.Choice.{if_then_else_}
 use Rattle.plain.specs.Sizes.{Below}
 use Rattle.plain.proofs.Rounding.{round-below}
 use Rattle.plain.proofs.Sizes.{weaken, neg-below}
 use Rattle.plain.proofs.Bits.{below-no-nan, bits-below}
+use Rattle.refusal.specs.declared.Refusal.the-variants as R
 use Rattle.decimal.specs.Form.{Written, number, broken, written}
-use Rattle.decimal.specs.Class.{LARGEST, STEEPEST, double, scaledBy, signed, valued, reading}
+use Rattle.decimal.specs.Class.{LARGEST, STEEPEST, scaledBy, signed, valued, reading}
 use Rattle.decimal.specs.declared.Reading.the-variants.{Number, BadForm, OutsideClass}
 use Rattle.decimal.proofs.Exact.{times-once, over-once}
 
@@ -38,36 +38,20 @@ signed-below : (m : Bool) (x : Float) → Below 200 x → Below 200 (signed m x)
 signed-below true x b = neg-below 200 x b
 signed-below false x b = b
 
-scaled-fits : (w : ℕ) (k : ℤ) → T (fits binary64 (scaledBy w k))
-scaled-fits w (pos k) = mul-fits binary64 (double w) (double (10 ^ k))
-scaled-fits w (negsuc k) = div-fits binary64 (double w) (double (10 ^ suc k))
+valued-below : (v : Written) (x : Float) → valued v ≡ Number x → Below 200 x
+valued-below broken x e = absurd (let z : _≡_ {A = ℕ} 0 1 = cc in omega arith)
+valued-below (number m w k) x e = by (leb w LARGEST) (leb (natAbs k) STEEPEST) refl refl e
+  where
+    by : (s t : Bool) → leb w LARGEST ≡ s → leb (natAbs k) STEEPEST ≡ t → (if s && t then Number (signed m (scaledBy w k)) else OutsideClass R.Number) ≡ Number x → Below 200 x
+    by true true p q e =
+        let y : signed m (scaledBy w k) ≡ x = cc in
+        subst (Below 200) y (signed-below m (scaledBy w k) (scaled-below w k (leb-true w LARGEST p) (leb-true (natAbs k) STEEPEST q)))
+    by true false p q e = absurd (let z : _≡_ {A = ℕ} 0 1 = cc in omega arith)
+    by false t p q e = absurd (let z : _≡_ {A = ℕ} 0 1 = cc in omega arith)
 
-signed-fits : (m : Bool) (x : Float) → T (fits binary64 x) → T (fits binary64 (signed m x))
-signed-fits true x t = neg-fits binary64 x t
-signed-fits false x t = t
-
--- what holds of every number in the class holds of every value that is read
-module _ (P : Float → Type 0) (each : (m : Bool) (w : ℕ) (k : ℤ) → w ≤ LARGEST → natAbs k ≤ STEEPEST → P (signed m (scaledBy w k))) where
-  valued-each : (v : Written) (x : Float) → valued v ≡ Number x → P x
-  valued-each broken x e = absurd (let z : _≡_ {A = ℕ} 0 1 = cc in omega arith)
-  valued-each (number m w k) x e = by (leb w LARGEST) (leb (natAbs k) STEEPEST) refl refl e
-    where
-      by : (s t : Bool) → leb w LARGEST ≡ s → leb (natAbs k) STEEPEST ≡ t → (if s && t then Number (signed m (scaledBy w k)) else OutsideClass) ≡ Number x → P x
-      by true true p q e =
-          let y : signed m (scaledBy w k) ≡ x = cc in
-          subst P y (each m w k (leb-true w LARGEST p) (leb-true (natAbs k) STEEPEST q))
-      by true false p q e = absurd (let z : _≡_ {A = ℕ} 0 1 = cc in omega arith)
-      by false t p q e = absurd (let z : _≡_ {A = ℕ} 0 1 = cc in omega arith)
-
-  pub reading-each : (bs : List ℕ) (x : Float) → reading bs ≡ Number x → P x
-  unfolding reading
-  reading-each bs x e = valued-each (written bs) x e
-
-pub reading-below : (bs : List ℕ) (x : Float) → reading bs ≡ Number x → Below 200 x
-reading-below = reading-each (Below 200) (λ m w k h g. signed-below m (scaledBy w k) (scaled-below w k h g))
-
-pub reading-fits : (bs : List ℕ) (x : Float) → reading bs ≡ Number x → T (fits binary64 x)
-reading-fits = reading-each (λ (x : Float). T (fits binary64 x)) (λ m w k h g. signed-fits m (scaledBy w k) (scaled-fits w k))
+reading-below : (bs : List ℕ) (x : Float) → reading bs ≡ Number x → Below 200 x
+unfolding reading
+reading-below bs x e = valued-below (written bs) x e
 
 pub reading-no-nan : (bs : List ℕ) (x : Float) → reading bs ≡ Number x → T (not (isNan x))
 reading-no-nan bs x e = below-no-nan 200 x (reading-below bs x e)
@@ -76,6 +60,6 @@ reading-no-nan bs x e = below-no-nan 200 x (reading-below bs x e)
 pub reading-bits : (bs : List ℕ) (x : Float) → reading bs ≡ Number x → toBits binary64 x % 2 ^ 63 < 2 ^ 52 * (1023 + 200)
 reading-bits bs x e = bits-below binary64 200 x (lit≤ tt) (reading-below bs x e)
 
-pub reading-empty : reading [] ≡ BadForm
+pub reading-empty : reading [] ≡ BadForm R.Syntax
 unfolding reading written
 reading-empty = refl

@@ -8,6 +8,7 @@ use lib.IntN.{ℤ, pos, natAbs, _-ℤ_}
 use borrow.Author.Tests.{le-leb, lt-leb}
 use Rattle.plain.specs.Choice.{if_then_else_}
 use Rattle.plain.specs.Doubles.{_⊗_, _⊘_}
+use Rattle.refusal.specs.declared.Refusal.the-variants as R
 use Rattle.decimal.specs.Form.{Written, number}
 use Rattle.decimal.specs.Class.{LARGEST, STEEPEST, double, scaledBy, signed, valued}
 use Rattle.decimal.specs.Parts.{FAR, Alike}
@@ -15,14 +16,14 @@ use Rattle.decimal.specs.declared.Reading.the-variants.{Number, OutsideC
 use Rattle.decimal.proofs.Exponents.{difference-up, difference-down, difference-size}
 
 module _ (m : Bool) (w : ℕ) where
-  pub valued-large : (k : ℤ) → LARGEST < w → valued (number m w k) ≡ OutsideClass
+  pub valued-large : (k : ℤ) → LARGEST < w → valued (number m w k) ≡ OutsideClass R.Number
   valued-large k h = simp (lt-leb w LARGEST h)
 
   valued-inside : (k : ℤ) → w ≤ LARGEST → natAbs k ≤ STEEPEST → valued (number m w k) ≡ Number (signed m (scaledBy w k))
   valued-inside k h g = simp (le-leb w LARGEST h, le-leb (natAbs k) STEEPEST g)
 
   module _ (up down : ℕ) where
-    pub valued-steep : STEEPEST < (up - down) + (down - up) → valued (number m w (pos up -ℤ pos down)) ≡ OutsideClass
+    pub valued-steep : STEEPEST < (up - down) + (down - up) → valued (number m w (pos up -ℤ pos down)) ≡ OutsideClass R.Number
     valued-steep h = simp (lt-leb (natAbs (pos up -ℤ pos down)) STEEPEST (omega (arith, difference-size up down)), and-false)
 
     pub valued-over : (k : ℕ) → k ≡ (up - down) + (down - up) → w ≤ LARGEST → k ≤ STEEPEST → up < down

@@ -8,6 +8,7 @@ use lib.IntN.{ℤ, pos, negsuc, natAbs}
 use lib.Ieee.{Float, binary64, ofInt, neg}
 use Rattle.plain.specs.Choice.{if_then_else_}
 use Rattle.plain.specs.Doubles.{_⊗_, _⊘_}
+use Rattle.refusal.specs.declared.Refusal.the-variants as R
 use Rattle.decimal.specs.Form.{Written, number, broken, written}
 use Rattle.decimal.specs.declared.Reading.{Reading}
 use Rattle.decimal.specs.declared.Reading.the-variants.{Number, BadForm, OutsideClass}
@@ -37,8 +38,8 @@ abbrev pub signed : (minus : Bool) → Float → Float
 signed m x = if m then neg x else x
 
 abbrev pub valued : Written → Reading
-valued (number m w k) = if inClass w k then Number (signed m (scaledBy w k)) else OutsideClass
-valued broken = BadForm
+valued (number m w k) = if inClass w k then Number (signed m (scaledBy w k)) else OutsideClass R.Number
+valued broken = BadForm R.Syntax
 
 unfoldable pub reading : List ℕ → Reading
 unfolding written

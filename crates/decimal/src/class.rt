@@ -1,6 +1,7 @@
 // The class and the double of a number in it: document 01, "either a number in the class or a refusal".
 use super::Reading;
 use super::power::power;
+use refusal::Refusal;
 ghost use mathlib.Core.Path.{_≡_};
 ghost use Prim.Native.Nat.{_+_, _-_};
 ghost use lib.IntN.{pos, _-ℤ_};
@@ -18,11 +19,11 @@ pub(crate) fn scale(minus: bool, w: u64, up: u64, down: u64) -> Reading
     ensures { λ r. ⌜ r ≡ valued (number minus w (pos up -ℤ pos down)) ⌝ }
 {
     if w > LARGEST {
-        return Reading::OutsideClass;
+        return Reading::OutsideClass(Refusal::Number);
     }
     let k = distance(up, down);
     if k > STEEPEST {
-        return Reading::OutsideClass;
+        return Reading::OutsideClass(Refusal::Number);
     }
     let ten = power(k);
     if up < down {

@@ -8,16 +8,17 @@ mod whole;
 
 use class::scale;
 use exponent::read_exponent;
+use refusal::Refusal;
 use sign::read_sign;
 use whole::read_whole;
 ghost use mathlib.Core.Path.{_≡_};
 ghost use Rattle.decimal.specs.Class.{reading};
 
-// What a run of bytes is: a number of the class; no value; a value outside the class.
+// What a run of bytes is: a number of the class; no value; a value outside the class. What is no number tells its refusal.
 pub enum Reading {
     Number(f64),
-    BadForm,
-    OutsideClass,
+    BadForm(Refusal),
+    OutsideClass(Refusal),
 }
 
 // What a value's bytes are.
@@ -32,5 +33,5 @@ pub fn read(value: &[u8]) -> Reading
             return scale(sign.minus, whole.w, exponent.up, exponent.down);
         }
     }
-    Reading::BadForm
+    Reading::BadForm(Refusal::Syntax)
 }

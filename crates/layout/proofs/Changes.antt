@@ -11,7 +11,7 @@ use Rattle.layout.specs.State.{Text, Pool, program}
 use Rattle.layout.specs.Limits.{TEXTS-AT, HEADS-AT}
 use Rattle.layout.specs.Memory.{totals, put}
 use Rattle.layout.proofs.Columns.{Stands, Room, putColumns, addColumns, closeColumns, stands-over, add-put, close-put}
-use Rattle.layout.proofs.Legal.{Fits, program-append, program-one}
+use Rattle.layout.proofs.Legal.{Fits, program-append, program-last}
 use Rattle.layout.proofs.Holds.{Holds, perText, perStatement, spaced-texts, spaced-statements, put-columns, room-texts, room-statements, holds-texts, holds-statements, length-laid-texts}
 
 -- the statements' columns stay while the texts' column is written
@@ -21,17 +21,14 @@ stands-texts s t m r k = stands-over perStatement (program s) m HEADS-AT TEXTS-A
 -- ---- a text added
 
 module _ (m : List ℕ) (s : Pool) (t : Text) (H : Holds m s) (F : Fits (s ++ (t ∷ []))) where
-  program-last : program (s ++ (t ∷ [])) ≡ program s ++ t .body
-  program-last = program-append s (t ∷ []) ∙ ap (λ (l : List Statement). program s ++ l) (program-one t)
-
   pub added : over 0 (totals (s ++ (t ∷ []))) (addColumns perStatement (program s) (t .body) (addColumns perText s (t ∷ []) m)) ≡ put (s ++ (t ∷ [])) m
   added =
       let u = s ++ (t ∷ []) in
       let r = room-texts u F in
       let a : addColumns perText s (t ∷ []) m ≡ putColumns perText u m = add-put perText s (t ∷ []) m TEXTS-AT spaced-texts r (holds-texts m s H) in
       let b : addColumns perStatement (program s) (t .body) (putColumns perText u m) ≡ putColumns perStatement (program u) (putColumns perText u m) =
-      add-put perStatement (program s) (t .body) (putColumns perText u m) HEADS-AT spaced-statements (subst (Room perStatement) program-last (room-statements u F)) (stands-texts s u m r (holds-statements m s H))
-      ∙ ap (λ (l : List Statement). putColumns perStatement l (putColumns perText u m)) (sym program-last) in
+      add-put perStatement (program s) (t .body) (putColumns perText u m) HEADS-AT spaced-statements (subst (Room perStatement) (program-last s t) (room-statements u F)) (stands-texts s u m r (holds-statements m s H))
+      ∙ ap (λ (l : List Statement). putColumns perStatement l (putColumns perText u m)) (sym (program-last s t)) in
       ap (λ (x : List ℕ). over 0 (totals u) x) (ap (addColumns perStatement (program s) (t .body)) a ∙ b) ∙ sym (put-columns u m)
 
 -- ---- a text removed

@@ -7,7 +7,7 @@ use native.Mathlib.Omega.{arith}
 use lib.ListN.{length, take, drop, length-append}
 use lib.Seq.{take-append-seam, take-take, take-add, drop-at, drop-drop}
 use Rattle.words.specs.Over.{over, part, moved}
-use Rattle.words.proofs.Over.{over-prefix, over-append, over-comm, part-before, part-after, part-over, length-over}
+use Rattle.words.proofs.Over.{over-prefix, part-before, part-after, part-over, length-over}
 use Rattle.layout.specs.State.{flat}
 
 -- ---- lists laid out for each element
@@ -142,34 +142,6 @@ module _ {A : Type 0} where
       sym (ap (λ (l : List ℕ). over (c .base) l m) (flat-append (c .lay) old new) ∙ over-prefix (c .base) (laid c old) (laid c new) m (length (laid c old)) (sym (s .0))) in
       ap (addColumns cs old new) e
       ∙ add-put cs old new (over (c .base) (laid c (old ++ new)) m) (c .end) (p .2) (r .1) (stands-over cs old m (c .end) (c .base) (laid c (old ++ new)) (p .2) (r .0) (s .1))
-
-  -- what is written before all columns may be written after them
-  pub add-over : (cs : List (Column A)) (old new : List A) (m : List ℕ) (lo at : ℕ) (ys : List ℕ) → Spaced lo cs → at + length ys ≤ lo
-      → addColumns cs old new (over at ys m) ≡ over at ys (addColumns cs old new m)
-  add-over [] old new m lo at ys p h = refl
-  add-over (c ∷ cs) old new m lo at ys p h =
-      ap (addColumns cs old new) (over-comm at ys (c .base + length (laid c old)) (laid c new) m (omega (arith, p .0)))
-      ∙ add-over cs old new (over (c .base + length (laid c old)) (laid c new) m) (c .end) at ys (p .2) (omega (arith, p .0, p .1))
-
-  -- some elements, and then some more
-  pub add-append : (cs : List (Column A)) (old new more : List A) (m : List ℕ) (lo : ℕ) → Spaced lo cs → Room cs (old ++ (new ++ more))
-      → addColumns cs old (new ++ more) m ≡ addColumns cs (old ++ new) more (addColumns cs old new m)
-  add-append [] old new more m lo p r = refl
-  add-append (c ∷ cs) old new more m lo p r =
-      let O = laid c old in
-      let N = laid c new in
-      let M = laid c more in
-      let b = c .base in
-      let l : length (laid c (old ++ new)) ≡ length O + length N = ap length (flat-append (c .lay) old new) ∙ length-append O N in
-      let k : length (laid c (old ++ (new ++ more))) ≡ length O + (length N + length M) =
-      ap length (laid-parts c old new more) ∙ length-append O (N ++ M) ∙ ap (λ (j : ℕ). length O + j) (length-append N M) in
-      let q : b + length O + length N ≡ b + length (laid c (old ++ new)) = omega arith in
-      let e : over (b + length O) (laid c (new ++ more)) m ≡ over (b + length (laid c (old ++ new))) M (over (b + length O) N m) =
-      ap (λ (y : List ℕ). over (b + length O) y m) (flat-append (c .lay) new more) ∙ over-append (b + length O) N M m ∙ ap (λ (j : ℕ). over j M (over (b + length O) N m)) q in
-      ap (addColumns cs old (new ++ more)) e
-      ∙ add-over cs old (new ++ more) (over (b + length O) N m) (c .end) (b + length (laid c (old ++ new))) M (p .2) (omega (arith, r .0))
-      ∙ ap (over (b + length (laid c (old ++ new))) M) (add-append cs old new more (over (b + length O) N m) (c .end) (p .2) (r .1))
-      ∙ sym (add-over cs (old ++ new) more (addColumns cs old new (over (b + length O) N m)) (c .end) (b + length (laid c (old ++ new))) M (p .2) (omega (arith, r .0)))
 
   -- ---- closing a gap
 

@@ -96,19 +96,13 @@ bounded-none = record { labels = tt; values = tt }
 -- ---- a text more at the end
 
 module _ (s : Pool) (t : Text) where
-  last : program (s ++ (t ∷ [])) ≡ program s ++ t .body
-  last = program-append s (t ∷ []) ∙ ap (λ (l : List Statement). program s ++ l) (program-one t)
+  pub program-last : program (s ++ (t ∷ [])) ≡ program s ++ t .body
+  program-last = program-append s (t ∷ []) ∙ ap (λ (l : List Statement). program s ++ l) (program-one t)
 
   pub legal-add : Legal s → Each (λ x. x .label ≡ t .label → ⊥) s → Each Fair (t .body) → Legal (s ++ (t ∷ []))
   legal-add L n f = record {
     labels = subst Different (sym (map-append labelOf s (t ∷ []))) (different-append (map labelOf s) (t .label) (L .labels) (each-map (λ l. l ≡ t .label → ⊥) labelOf s n));
-    statements = subst (Each Fair) (sym last) (each-append Fair (program s) (t .body) (L .statements) f);
-  }
-
-  pub bounded-add : Bounded s → t .label < HALF → Each (λ x. Words (x .values)) (t .body) → Bounded (s ++ (t ∷ []))
-  bounded-add B h f = record {
-    labels = each-append (λ t. t .label < HALF) s (t ∷ []) (B .labels) (h, tt);
-    values = subst (Each (λ x. Words (x .values))) (sym last) (each-append (λ x. Words (x .values)) (program s) (t .body) (B .values) f);
+    statements = subst (Each Fair) (sym program-last) (each-append Fair (program s) (t .body) (L .statements) f);
   }
 
 -- ---- some texts fewer

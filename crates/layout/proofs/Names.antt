@@ -10,7 +10,7 @@ use lib.ListN.{length, drop, getD, length-append, List·getD-eq-default}
 use Rattle.plain.specs.Choice.{if_then_else_}
 use Rattle.plain.specs.Runs.{run, skip}
 use Rattle.plain.specs.Bytes.{within}
-use Rattle.plain.proofs.Runs.{run-skip, run-length}
+use Rattle.plain.proofs.Runs.{run-skip, run-length, run-each}
 use Rattle.text.specs.Classes.{nameByte}
 use Rattle.text.specs.Statements.{NAME}
 use Rattle.words.specs.Halves.{all}
@@ -191,14 +191,6 @@ module _ (n : List ℕ) (e : legal n ≡ true) where
           (f k) (f (k + 1)) (f (k + 2)) (f (k + 3)) (f (k + 4)) (f (k + 5)) (f (k + 6)) (f (k + 7))
 
 -- ---- words that hold a name come back
-
-run-each : (p : ℕ → Bool) (bs : List ℕ) → Each (λ b. p b ≡ true) (run p bs)
-run-each p [] = tt
-run-each p (b ∷ bs) = by (p b) refl (run-each p bs)
-  where
-    by : (t : Bool) → p b ≡ t → Each (λ x. p x ≡ true) (run p bs) → Each (λ x. p x ≡ true) (if t then b ∷ run p bs else [])
-    by true e r = (e, r)
-    by false e r = tt
 
 length-bytes : (ws : List ℕ) → length (bytes ws) ≡ 8 * length ws
 unfolding bytes

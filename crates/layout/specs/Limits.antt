@@ -1,11 +1,11 @@
--- The limits of a pool, and the places of its areas in memory (docs/LAYOUT.md). Definitions only.
+-- "A pool is memory of one fixed size, lent by the caller. It holds up to 16 texts, each under a label (any 32-bit unsigned number),
+-- 512 statements and 3,072 values." The limits, and the places of the areas in that memory (docs/LAYOUT.md). Definitions only.
 use Prim.Native.Nat.{ℕ}
 use mathlib.Core.Bool.{Bool, _&&_}
 use lib.Dec.{leb}
 use lib.ListN.{length}
 use Rattle.layout.specs.State.{Pool, program, values}
 
--- "up to 16 texts, .. 512 statements and 3,072 values"
 abbrev pub TEXTS : ℕ
 TEXTS = 16
 
@@ -40,6 +40,6 @@ WORDS = 5651
 unfoldable pub room : Pool → Bool
 room s = leb (length s) TEXTS && leb (length (program s)) STATEMENTS && leb (length (values s)) VALUES
 
--- the longest text, in bytes
+-- the longest text that is loaded, in bytes: "over 65,536 bytes" is too long
 abbrev pub LONGEST-LOAD : ℕ
 LONGEST-LOAD = 65536

@@ -1,4 +1,5 @@
--- A name as four words: its bytes from the most significant down, zeros after it. Definitions only.
+-- "Name: the longest run of letters, digits or underscores, 1 to 32 of them; case counts." In memory a name is four words: its bytes
+-- from the most significant down, zeros after it. Definitions only.
 use Prim.Native.Nat.{ℕ, _+_, _*_, _/_, _%_}
 use mathlib.Core.Bool.{Bool, _&&_}
 use mathlib.Core.List.{List, [], _∷_, _++_}
@@ -10,7 +11,7 @@ use Rattle.text.specs.Classes.{nameByte}
 use Rattle.text.specs.Statements.{NAME}
 use Rattle.words.specs.Halves.{all}
 
--- "Name: the longest run of letters, digits or underscores, 1 to 32 of them"
+-- "1 to 32 of them"
 unfoldable pub legal : List ℕ → Bool
 legal name = within 1 NAME (length name) && all nameByte name
 

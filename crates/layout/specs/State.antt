@@ -1,4 +1,5 @@
--- "A pool .. holds up to 16 texts, each under a label .. , 512 statements and 3,072 values." Definitions only.
+-- "It holds up to 16 texts, each under a label (any 32-bit unsigned number), 512 statements and 3,072 values. A text of no statements
+-- still takes a label." Definitions only.
 use Prim.Native.Nat.{ℕ}
 use mathlib.Core.List.{List, [], _∷_, _++_}
 use Rattle.text.specs.Statements.{Statement}

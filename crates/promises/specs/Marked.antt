@@ -48,8 +48,8 @@ next x = ofBits binary64 (bits x + 1)
 -- a value's bytes are read, as a double of these bits
 abbrev pub hasBits : ℕ → Reading → Bool
 hasBits n (D.Number x) = eqb (bits x) n
-hasBits n D.BadForm = false
-hasBits n D.OutsideClass = false
+hasBits n (D.BadForm q) = false
+hasBits n (D.OutsideClass q) = false
 
 -- an empty pool answers the load of a text so: the number and the line
 abbrev pub answers : (number line : ℕ) (bytes : List ℕ) → Bool

@@ -14,9 +14,9 @@ use Rattle.plain.specs.Choice.{if_then_else_}
 use Rattle.plain.specs.Runs.{run, past}
 use Rattle.plain.proofs.Places.{past-after, past-end}
 use Rattle.decimal.specs.Class.{reading}
-use Rattle.decimal.specs.Form.{written}
 use Rattle.decimal.specs.declared.Reading.{Reading}
 use Rattle.decimal.specs.declared.Reading.the-variants as D
+use Rattle.decimal.proofs.Bounded.{reading-empty}
 use Rattle.text.specs.Classes.{separator, valueByte, stands}
 use Rattle.text.specs.Values.{told, valueAt, asItem, item, Items, further, itemsUpTo, items}
 use Rattle.text.specs.declared.values.Item.{Item}
@@ -26,18 +26,14 @@ use Rattle.text.specs.declared.values.Word.the-variants as W
 
 -- ---- a number takes a byte at least
 
-no-bytes : reading [] ≡ D.BadForm
-unfolding reading written
-no-bytes = refl
-
 some-bytes : (bs : List ℕ) (x : Float) → reading bs ≡ D.Number x → 0 < length bs
-some-bytes [] x e = let z : _≡_ {A = ℕ} 0 1 = cc no-bytes in absurd (omega arith)
+some-bytes [] x e = let z : _≡_ {A = ℕ} 0 1 = cc reading-empty in absurd (omega arith)
 some-bytes (b ∷ bs) x e = omega arith
 
 from-told : (v : Reading) (i e k : ℕ) (x : Float) → told v i e ≡ W.Number x k → (v ≡ D.Number x) × (e ≡ k)
 from-told (D.Number y) i e k x q = (cc, cc)
-from-told D.BadForm i e k x q = let z : _≡_ {A = ℕ} 0 1 = cc in absurd (omega arith)
-from-told D.OutsideClass i e k x q = let z : _≡_ {A = ℕ} 0 1 = cc in absurd (omega arith)
+from-told (D.BadForm r) i e k x q = let z : _≡_ {A = ℕ} 0 1 = cc in absurd (omega arith)
+from-told (D.OutsideClass r) i e k x q = let z : _≡_ {A = ℕ} 0 1 = cc in absurd (omega arith)
 
 -- a value that is a number is what the run of its bytes is read as
 pub value-read : (line : List ℕ) (i k : ℕ) (x : Float) → valueAt line i ≡ W.Number x k

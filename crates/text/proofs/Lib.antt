@@ -16,5 +16,6 @@ pub mod Passing
 pub mod FirstFault
 pub mod Names
 pub mod Numbers
+pub mod Readings
 pub mod Legal
 pub mod Counts

@@ -3,12 +3,12 @@ use Prim.Native.Nat.{ℕ, _+_, _-_}
 use native.Mathlib.Omega.{arith}
 use mathlib.Core.Path.{_≡_, refl, ap, _∙_}
 use mathlib.Core.Bool.{Bool, true, false, _&&_}
-use mathlib.Core.List.{List, [], _∷_}
+use mathlib.Core.List.{List}
 use lib.Dec.{ltb}
 use lib.ListN.{length, take, drop}
 use Rattle.plain.specs.Bytes.{PLUS, EQUALS, within}
 use Rattle.plain.specs.Choice.{if_then_else_}
-use Rattle.plain.specs.Runs.{run, past}
+use Rattle.plain.specs.Runs.{past}
 use Rattle.plain.proofs.Places.{take-past}
 use Rattle.text.specs.Classes.{blank, nameByte, stands}
 use Rattle.text.specs.Statements.{NAME, operated, named, head}
@@ -18,19 +18,12 @@ use Rattle.text.specs.declared.statements.Head.{Head}
 use Rattle.text.specs.declared.statements.Head.the-variants as H
 use Rattle.text.specs.declared.statements.Operator.the-variants as O
 use Rattle.plain.proofs.Each.{Each}
+use Rattle.plain.proofs.Runs.{run-each}
 
 -- 1 to 32 letters, digits or underscores
 pub record LegalName (name : List ℕ) : Type 0 where
   pub sized : within 1 NAME (length name) ≡ true
   pub bytes : Each (λ b. nameByte b ≡ true) name
-
-all-run : (p : ℕ → Bool) (bs : List ℕ) → Each (λ b. p b ≡ true) (run p bs)
-all-run p [] = tt
-all-run p (b ∷ bs) = by (p b) refl (all-run p bs)
-  where
-    by : (t : Bool) → p b ≡ t → Each (λ b. p b ≡ true) (run p bs) → Each (λ b. p b ≡ true) (if t then b ∷ run p bs else [])
-    by true e h = (e, h)
-    by false e h = tt
 
 -- the name of a head, if it has one
 abbrev pub LegalHead : List ℕ → Head → Type 0
@@ -58,7 +51,7 @@ legal-named line n = by (within 1 NAME (e - n)) refl
     e = past nameByte line n
 
     by : (t : Bool) → within 1 NAME (e - n) ≡ t → LegalHead line (if t then operated line n e (past blank line e) else H.Fault F.BadName n)
-    by true q = legal-operated line n e (past blank line e) (record { sized = rw (name-long line n) q; bytes = rw (take-past nameByte line n) (all-run nameByte (drop n line)) })
+    by true q = legal-operated line n e (past blank line e) (record { sized = rw (name-long line n) q; bytes = rw (take-past nameByte line n) (run-each nameByte (drop n line)) })
     by false q = tt
 
 pub legal-head : (line : List ℕ) → LegalHead line (head line)

@@ -31,8 +31,8 @@ use Rattle.text.specs.declared.line.Reader.the-variants as R
 -- what a value's bytes from i to `end` are to the line: the number and the place after it, or a fault where they start
 abbrev pub told : Reading → (i end : ℕ) → Word
 told (D.Number x) i end = W.Number x end
-told D.BadForm i end = W.Fault F.BadValue i
-told D.OutsideClass i end = W.Fault F.OutsideClass i
+told (D.BadForm r) i end = W.Fault F.BadValue i
+told (D.OutsideClass r) i end = W.Fault F.OutsideClass i
 
 -- "A value is a maximal run without blank, comma or bracket."
 unfoldable pub valueAt : List ℕ → ℕ → Word

@@ -53,8 +53,8 @@ pub fn read_value(line: &[u8], at: usize) -> Word
     let reading = decimal::read(bytes);
     match reading {
         Reading::Number(x) => Word::Number(x, at + bytes.len()),
-        Reading::BadForm => Word::Fault(Fault::BadValue, at),
-        Reading::OutsideClass => Word::Fault(Fault::OutsideClass, at),
+        Reading::BadForm(_) => Word::Fault(Fault::BadValue, at),
+        Reading::OutsideClass(_) => Word::Fault(Fault::OutsideClass, at),
     }
 }
 

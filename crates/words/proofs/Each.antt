@@ -2,8 +2,7 @@
 use mathlib.Core.Path.{_≡_, refl}
 use mathlib.Core.Bool.{Bool, true}
 use mathlib.Core.List.{List, [], _∷_}
-use Prim.Native.Nat.{ℕ, zero, suc, _<_}
-use lib.Dec.{lit<}
+use Prim.Native.Nat.{ℕ, suc, _<_}
 use lib.ListN.{getD}
 use Rattle.words.specs.Halves.{all}
 use Rattle.plain.proofs.Tests.{first-then}
@@ -32,8 +31,3 @@ Words ws = Each (λ w. w < WORD) ws
 pub words-of : (ws : List ℕ) → ((i : ℕ) → getD ws i 0 < WORD) → Words ws
 words-of [] f = tt
 words-of (w ∷ ws) f = (f 0, words-of ws (λ i. f (suc i)))
-
-pub word-at : (ws : List ℕ) → Words ws → (i : ℕ) → getD ws i 0 < WORD
-word-at [] f i = lit< tt
-word-at (w ∷ ws) f zero = f .0
-word-at (w ∷ ws) f (suc i) = word-at ws (f .1) i

@@ -3,7 +3,7 @@ use mathlib.Core.Path.{_≡_, refl, sym, ap}
 use mathlib.Core.Bool.{Bool, true, false}
 use mathlib.Core.List.{List, [], _∷_, _++_, map}
 use Prim.Native.Nat.{ℕ, zero, suc, _+_, _≤_, _<_}
-use native.Mathlib.Nat.{not-suc-le-zero, le-of-suc-le-suc, le-refl}
+use native.Mathlib.Nat.{not-suc-le-zero, le-of-suc-le-suc}
 use native.Mathlib.Omega.{arith}
 use borrow.Author.Tests.{le-ltb, ltb-false, ne-eqb, eqb-false}
 use lib.Dec.{eqb, ltb}
@@ -26,11 +26,6 @@ joined-halves w = omega arith
 
 -- ---- sums
 
-pub sum-append : (xs ys : List ℕ) → sum (xs ++ ys) ≡ sum xs + sum ys
-unfolding sum
-sum-append [] ys = omega arith
-sum-append (x ∷ xs) ys = omega (arith, sum-append xs ys)
-
 -- one word more
 pub sum-take-next : (k : ℕ) (ws : List ℕ) → k < length ws → sum (take (k + 1) ws) ≡ sum (take k ws) + lower (getD ws k 0)
 unfolding sum
@@ -48,15 +43,6 @@ sum-parts (suc k) [] = refl
 sum-parts (suc k) (w ∷ ws) = omega (arith, sum-parts k ws)
 
 -- ---- places
-
-pub place-length : (u : ℕ) (ws : List ℕ) → place u ws ≤ length ws
-unfolding place
-place-length u [] = le-refl 0
-place-length u (w ∷ ws) = by (eqb (upper w) u) (place-length u ws)
-  where
-    by : (b : Bool) → place u ws ≤ length ws → (if b then 0 else suc (place u ws)) ≤ suc (length ws)
-    by true h = omega arith
-    by false h = omega arith
 
 -- a number that no word has is found nowhere, and the other way round
 pub place-absent : (u : ℕ) (ws : List ℕ) → Each (λ w. upper w ≡ u → ⊥) ws → place u ws ≡ length ws

@@ -83,13 +83,6 @@ getD-over-after zero (x ∷ xs) (y ∷ m) (suc i) d h = getD-over-after zero xs 
 getD-over-after (suc at) xs (y ∷ m) zero d h = let z : suc at ≤ 0 = omega arith in before-zero z
 getD-over-after (suc at) xs (y ∷ m) (suc i) d h = getD-over-after at xs m i d (omega arith)
 
-pub getD-over-before : {A : Type 0} (at : ℕ) (xs m : List A) (i : ℕ) (d : A) → i < at → getD (over at xs m) i d ≡ getD m i d
-unfolding over
-getD-over-before at xs [] i d h = refl
-getD-over-before zero xs (y ∷ m) i d h = before-zero h
-getD-over-before (suc at) xs (y ∷ m) zero d h = refl
-getD-over-before (suc at) xs (y ∷ m) (suc i) d h = getD-over-before at xs m i d (le-of-suc-le-suc h)
-
 pub take-over : {A : Type 0} (n at : ℕ) (xs m : List A) → n ≤ at → take n (over at xs m) ≡ take n m
 unfolding over
 take-over zero at xs m h = refl

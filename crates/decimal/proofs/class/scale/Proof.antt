@@ -6,14 +6,14 @@ use lib.IntN.{pos, _-ℤ_}
 use lib.Ieee.{Float, inFloat}
 use borrow.Author.Needs.{needs}
 use Rattle.plain.specs.Doubles.{_⊗_, _⊘_}
-use Rattle.decimal.specs.Class.{double, signed}
+use Rattle.decimal.specs.Class.{LARGEST, double, signed}
 use Rattle.decimal.specs.declared.Reading.the-variants.{Number}
 use Rattle.decimal.proofs.Valued.{valued-large, valued-steep, valued-over, valued-times}
 use Rattle.decimal.proofs.class.scale.Statement.{statement}
 use Rattle.decimal.proofs.class.scale.Tie as tie
 
 returns : tie.Need-returns
-returns c = let a = c .before .args in sym (valued-large (a .minus) (a .w) (pos (a .up) -ℤ pos (a .down)) (c .if1 .taken))
+returns c = let a = c .before .args in sym (valued-large (a .minus) (a .w) (pos (a .up) -ℤ pos (a .down)) (omega arith))
 
 distance-requires : tie.Need-distance-requires
 distance-requires c κs = search needs
@@ -26,7 +26,7 @@ power-requires c κs = search needs
 
 int-to-float-negate-for : tie.Need-int-to-float-negate-for
 unfolding inFloat
-int-to-float-negate-for c = le→leb _ _ (c .before .before .before .before .before .if1 .left)
+int-to-float-negate-for c = let a = c .before .before .before .before .before .before .args in le→leb (a .w) LARGEST (omega arith)
 
 negate-for-requires : tie.Need-negate-for-requires
 negate-for-requires c κs = search needs
@@ -36,11 +36,11 @@ returns-3 c =
     let b = c .before .before .before in
     let a = b .before .before .before .before .args in
     ap Number (c .negate-for .ensures ∙ ap (λ (ten : Float). signed (a .minus) (double (a .w) ⊘ ten)) (b .power .ensures))
-    ∙ sym (valued-over (a .minus) (a .w) (a .up) (a .down) _ (b .before .before .distance .ensures) (b .before .before .before .if1 .left) (b .before .if2 .left) (c .before .before .if3 .taken))
+    ∙ sym (valued-over (a .minus) (a .w) (a .up) (a .down) _ (b .before .before .distance .ensures) (omega arith) (omega arith) (c .before .before .if3 .taken))
 
 int-to-float-negate-for-2 : tie.Need-int-to-float-negate-for-2
 unfolding inFloat
-int-to-float-negate-for-2 c = le→leb _ _ (c .before .before .before .before .before .if1 .left)
+int-to-float-negate-for-2 c = let a = c .before .before .before .before .before .before .args in le→leb (a .w) LARGEST (omega arith)
 
 negate-for-requires-2 : tie.Need-negate-for-requires-2
 negate-for-requires-2 c κs = search needs
@@ -50,7 +50,7 @@ returns-4 c =
     let b = c .before .before .before in
     let a = b .before .before .before .before .args in
     ap Number (c .negate-for2 .ensures ∙ ap (λ (ten : Float). signed (a .minus) (double (a .w) ⊗ ten)) (b .power .ensures))
-    ∙ sym (valued-times (a .minus) (a .w) (a .up) (a .down) _ (b .before .before .distance .ensures) (b .before .before .before .if1 .left) (b .before .if2 .left) (c .before .before .if3 .left))
+    ∙ sym (valued-times (a .minus) (a .w) (a .up) (a .down) _ (b .before .before .distance .ensures) (omega arith) (omega arith) (c .before .before .if3 .left))
 
 pub scale-spec : {M : Type 1} → statement M
 scale-spec =

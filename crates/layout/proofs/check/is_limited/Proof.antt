@@ -1,6 +1,9 @@
 -- `is_limited` meets its contract: each way out is one of the three tests. Assumes nothing.
+use native.Mathlib.Omega.{arith}
 use borrow.Author.Needs.{needs}
 use borrow.Author.Tests.{le-leb, lt-leb}
+use Rattle.layout.specs.Limits.{TEXTS, STATEMENTS}
+use Rattle.layout.specs.Memory.{textCount, statementCount}
 use Rattle.layout.proofs.check.is_limited.Statement.{statement}
 use Rattle.layout.proofs.check.is_limited.Tie as tie
 
@@ -8,19 +11,23 @@ shared-slice-read-if1 : tie.Need-shared-slice-read-if1
 shared-slice-read-if1 c = search needs
 
 returns : tie.Need-returns
-returns c = rw (lt-leb _ _ (c .if1 .taken))
+returns c = let m = c .before .before .args .m .now in rw (lt-leb (textCount m) TEXTS (omega arith))
 
 shared-slice-read-if2 : tie.Need-shared-slice-read-if2
 shared-slice-read-if2 c = search needs
 
 returns-2 : tie.Need-returns-2
-returns-2 c = rw (le-leb _ _ (c .before .before .if1 .left), lt-leb _ _ (c .if2 .taken))
+returns-2 c =
+    let m = c .before .before .before .before .args .m .now in
+    rw (le-leb (textCount m) TEXTS (omega arith), lt-leb (statementCount m) STATEMENTS (omega arith))
 
 shared-slice-read-result : tie.Need-shared-slice-read-result
 shared-slice-read-result c = search needs
 
 returns-3 : tie.Need-returns-3
-returns-3 c = rw (le-leb _ _ (c .before .before .before .if1 .left), le-leb _ _ (c .before .if2 .left))
+returns-3 c =
+    let m = c .before .before .before .before .before .args .m .now in
+    rw (le-leb (textCount m) TEXTS (omega arith), le-leb (statementCount m) STATEMENTS (omega arith))
 
 pub is-limited-spec : {M : Type 1} → statement M
 is-limited-spec =

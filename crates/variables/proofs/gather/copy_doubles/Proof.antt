@@ -1,14 +1,12 @@
 -- `copy_doubles` meets its contract: one double more is written each turn, and bits of a size below 2^200 are no NaN's. Assumes nothing.
-use Prim.Native.Nat.{ℕ, _+_, _-_, _≤_, _<_, _/_, _%_}
-use mathlib.Core.Path.{_≡_, refl, sym, ap, _∙_, subst}
-use mathlib.Core.Bool.{Bool, true, false, not}
+use Prim.Native.Nat.{ℕ, _+_, _-_, _≤_}
+use mathlib.Core.Path.{_≡_, refl, sym, ap, _∙_}
+use mathlib.Core.Bool.{true, not}
 use mathlib.Core.List.{List, map}
 use native.Mathlib.Omega.{arith}
 use borrow.Author.Needs.{needs}
-use borrow.Author.Tests.{ltb-true, le-ltb}
 use lib.Dec.{T}
 use lib.Ieee.{Float, ofBits, binary64, nanBits}
-use lib.Ieee.Bits.{nanBits-above}
 use lib.ListN.{length, take, getD, set, length-set}
 use lib.Seq.{take-all}
 use Rattle.words.specs.Over.{over}
@@ -16,6 +14,7 @@ use Rattle.plain.proofs.Each.{each-at}
 use Rattle.words.proofs.Each.{all-each}
 use Rattle.words.proofs.Over.{over-nil, over-turn-map}
 use Rattle.layout.specs.Damage.{small}
+use Rattle.layout.proofs.Small.{small-number}
 use Rattle.variables.proofs.gather.copy_doubles.Statement.{statement}
 use Rattle.variables.proofs.gather.copy_doubles.Tie as tie
 
@@ -35,10 +34,7 @@ shared-slice-read-out : tie.Need-shared-slice-read-out Inv-loop μ-loop
 shared-slice-read-out c = omega arith
 
 no-nan : (w : ℕ) → small w ≡ true → T (not (nanBits binary64 w))
-no-nan w e =
-    let h : w / 4503599627370496 % 2048 < 1223 = ltb-true _ _ e in
-    let f : nanBits binary64 w ≡ false = nanBits-above binary64 w ∙ le-ltb 9218868437227405312 (w % 9223372036854775808) (omega arith) in
-    subst (λ (b : Bool). T (not b)) (sym f) tt
+no-nan w e = rw (small-number w e) tt
 
 float-from-bits-out : tie.Need-float-from-bits-out Inv-loop μ-loop
 float-from-bits-out c =
