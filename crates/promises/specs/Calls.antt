@@ -87,7 +87,7 @@ pub record Build : Type 0 where
 abbrev pub library : Build
 library = record { answer = asked; memory = leaves }
 
--- ---- an answer as document 01 gives it: "success is number 0 with line 0 .. a refusal returns its number, for 3 to 6 the line (0 for all
+-- ---- an answer as document 01 gives it: "Success is number 0 with line 0"; "A refusal returns its number, for 3 to 6 the line (0 for all
 -- others), and no values"
 
 abbrev pub number : Answer → ℕ

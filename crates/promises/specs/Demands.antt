@@ -82,7 +82,7 @@ pub record Contracts (b : Build) : Type 0 where
   pub radii : (source : Source) (m : List ℕ) (n : ℕ) → Meets C.measured (Measures source m n) (b .answer (C.radii source n) m)
   pub queries : (c : Call) (m : List ℕ) → query c ≡ true → b .memory c m ≡ m
 
--- "That no second answer could satisfy it is itself proved."
+-- "That no second answer could satisfy it is itself proved"
 
 -- one answer at most meets a contract on the answer; of one on the answer and what is left in lent memory, one pair at most
 abbrev pub OneAnswer : {A : Type 0} → (A → Type 0) → Type 0
@@ -209,7 +209,7 @@ pub record NoOverflow (b : Build) : Type 0 where
       → b .answer (orientation S.Builtin n epoch) m ≡ oriented (O.Given o) → rowOf n ≡ Held row
       → NeverOverflows row epoch (neptunes n neptuneAngle) (neptunes n neptuneRA) (neptunes n neptuneDEC) (neptunes n neptunePM)
 
--- "The two are never blended, since a pole of one report with a meridian of another is an orientation nobody published."
+-- "the two are never blended, since a pole of one report with a meridian of another is an orientation nobody published."
 
 -- all that is wanted of a body is there in the texts of a pool, and the orientation is that of these elements
 pub record OfPool (s : Pool) (n : ℕ) (epoch : Float) (o : Orientation) : Type 0 where

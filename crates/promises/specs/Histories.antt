@@ -1,5 +1,5 @@
 -- "After any sequence of calls every answer equals that of an empty pool into which only the texts still held are loaded, in the order of
--- their latest accepted load." Definitions only.
+-- their latest accepted load". Definitions only.
 use Prim.Native.Nat.{ℕ}
 use mathlib.Core.Path.{_≡_}
 use mathlib.Core.Bool.{true}

@@ -1,4 +1,4 @@
--- "Marked cases, proved about the definitions as a single table under one claim." Definitions only; the claim is proved in
+-- "Marked cases, proved about the definitions as a single table under one claim". Definitions only; the claim is proved in
 -- proofs/Marked.antt.
 use Prim.Native.Nat.{ℕ, _+_}
 use mathlib.Core.Path.{_≡_}

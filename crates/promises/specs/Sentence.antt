@@ -1,4 +1,4 @@
--- "A variable is its last direct assignment followed by all later appendings, or all appendings." Definitions only.
+-- "a variable is its last direct assignment followed by all later appendings, or all appendings." Definitions only.
 use Prim.Native.Nat.{ℕ}
 use mathlib.Core.Path.{_≡_}
 use mathlib.Core.Bool.{true, false}
