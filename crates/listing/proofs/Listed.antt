@@ -12,7 +12,8 @@ use Rattle.plain.specs.Choice.{if_then_else_}
 use Rattle.refusal.specs.Numbers.{numberOf}
 use Rattle.refusal.specs.declared.Refusal.{Refusal}
 use Rattle.refusal.specs.declared.Refusal.the-variants.{DamagedPool}
-use Rattle.words.specs.Over.{over}
+use Rattle.words.specs.Placed.{Room, Writes}
+use Rattle.words.proofs.Placed.{writes-same}
 use Rattle.layout.specs.State.{Pool}
 use Rattle.layout.specs.Limits.{WORDS}
 use Rattle.layout.specs.Memory.{decode}
@@ -25,13 +26,16 @@ use Rattle.pool.specs.declared.reply.Reply.{Reply}
 use Rattle.pool.specs.declared.reply.Reply.the-variants.{Done, Refused}
 use Rattle.pool.proofs.Emptying.{empty-sound, empty-decode}
 use Rattle.pool.proofs.Loaded.{load-sound, load-decode}
-use Rattle.shown.specs.Shown.{shown}
-use Rattle.listing.specs.Listing.{LABEL, LINE, REFUSED, loaded, told, listing}
-use Rattle.words.specs.Placed.{Room, Writes}
 use Rattle.pen.specs.Pen.{phrase, entry}
+use Rattle.shown.specs.Shown.{shown}
 use Rattle.shown.specs.Shows.{Showing}
+use Rattle.listing.specs.Listing.{LABEL, LINE, REFUSED, loaded, told, listing}
 use Rattle.listing.specs.Lists.{SIZE, Lists}
 use Rattle.listing.proofs.Longest.{shown-fits, refusal-fits}
+
+-- what is written is the listing
+lists : {text xs out : List ℕ} {r : ℕ} {after : List ℕ} → xs ≡ listing text → Writes 0 xs out r after → Lists text out r after
+lists {text} e w = let v = writes-same e w in record { size = v .next ∙ zero-add (length (listing text)); output = v .output }
 
 -- ---- the calls
 
@@ -72,11 +76,7 @@ module _ (text first empty memory : List ℕ) (made reply : Reply) (n : WORDS �
     showing out l = record { whole = undamaged; room = record { fits = omega (arith, shown-fits memory (sound-of memory undamaged)) } }
 
     pub lists-shown : (out : List ℕ) (r : ℕ) (after : List ℕ) → Writes 0 (shown (decode memory)) out r after → Lists text out r after
-    lists-shown out r after w =
-        record {
-          size = w .next ∙ zero-add (length (shown (decode memory))) ∙ ap length is-shown;
-          output = w .output ∙ ap (λ (l : List ℕ). over 0 l out) is-shown;
-        }
+    lists-shown out r after w = lists is-shown w
 
   -- ---- and another is refused
 
@@ -87,11 +87,7 @@ module _ (text first empty memory : List ℕ) (made reply : Reply) (n : WORDS �
         ap (λ (n : ℕ). phrase REFUSED n ++ (SPACE ∷ entry LINE line)) e ∙ ap (λ (r : Reply). told r (loaded text)) (sym d ∙ answered)
 
     pub lists-refused : (out : List ℕ) (r : ℕ) (after : List ℕ) → Writes 0 (phrase REFUSED number ++ (SPACE ∷ entry LINE line)) out r after → Lists text out r after
-    lists-refused out r after w =
-        record {
-          size = w .next ∙ zero-add (length (phrase REFUSED number ++ (SPACE ∷ entry LINE line))) ∙ ap length is-refused;
-          output = w .output ∙ ap (λ (l : List ℕ). over 0 l out) is-refused;
-        }
+    lists-refused out r after w = lists is-refused w
 
 pub room-refusal : (number line : ℕ) (out : List ℕ) → length out ≡ SIZE → Room 0 (phrase REFUSED number ++ (SPACE ∷ entry LINE line)) out
 room-refusal number line out l = record { fits = omega (arith, refusal-fits number line) }

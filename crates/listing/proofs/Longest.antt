@@ -1,7 +1,7 @@
 -- No listing is longer than the room for it. Assumes nothing.
 use mathlib.Core.Path.{_≡_, refl}
 use mathlib.Core.List.{List, [], _∷_, _++_}
-use Prim.Native.Nat.{ℕ, zero, suc, _+_, _*_, _/_, _%_, _≤_}
+use Prim.Native.Nat.{ℕ, _+_, _*_, _≤_}
 use native.Mathlib.Omega.{arith}
 use lib.ListN.{length, length-append}
 use Rattle.plain.specs.Bytes.{LF, SPACE}
@@ -14,25 +14,14 @@ use Rattle.layout.proofs.Legal.{Fair}
 use Rattle.layout.proofs.Names.{legible-of}
 use Rattle.layout.proofs.Holds.{decode-legal, decode-fits}
 use Rattle.variables.specs.Variables.{variable}
-use Rattle.pen.specs.Digits.{digitOf, digits}
 use Rattle.pen.specs.Figures.{decimal, bits}
 use Rattle.shown.specs.Shown.{VARIABLES, VALUES, namesIn, valuesOf, counts, bitLines, shown}
 use Rattle.listing.specs.Listing.{LINE, REFUSED}
 use Rattle.pen.specs.Pen.{phrase, entry}
 use Rattle.listing.specs.Lists.{SIZE}
-use Rattle.pen.proofs.Decimals.{length-decimalUpTo}
+use Rattle.pen.proofs.Lengths.{length-decimalUpTo, length-entry, length-digits}
 use Rattle.order.proofs.Rising.{each-names, length-names}
 use Rattle.shown.proofs.Together.{values-few}
-
--- a line of a word and a number: a space, at most twenty figures, and its end
-length-entry : (word : List ℕ) (n : ℕ) → length (entry word n) ≤ length word + 22
-length-entry word n =
-    omega (arith, length-append word (SPACE ∷ decimal n ++ (LF ∷ [])), length-append (decimal n) (LF ∷ []), length-decimalUpTo 20 n)
-
-length-digits : (k n : ℕ) → length (digits k n) ≡ k
-unfolding digits
-length-digits zero n = refl
-length-digits (suc k) n = omega (arith, length-append (digits k (n / 16)) (digitOf (n % 16) ∷ []), length-digits k (n / 16))
 
 length-bitLines : (ws : List ℕ) → length (bitLines ws) ≡ 17 * length ws
 unfolding bitLines flat

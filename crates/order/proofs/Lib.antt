@@ -4,4 +4,4 @@ pub mod Packed
 mod Spots
 pub mod Named
 pub mod Rising
-pub mod Raising
+mod Raising

@@ -60,16 +60,17 @@ unfolding cutNames
 length-cutNames zero ws = refl
 length-cutNames (suc k) ws = ap suc (length-cutNames k (drop NAMEWORDS ws))
 
-nameAt-next : (ws : List ℕ) (p : ℕ) → nameAt (drop NAMEWORDS ws) p ≡ nameAt ws (suc p)
-nameAt-next ws p =
+-- the words at a place after the first
+pub wordsAt-next : (ws : List ℕ) (p : ℕ) → wordsAt (drop NAMEWORDS ws) p ≡ wordsAt ws (suc p)
+wordsAt-next ws p =
     let e : NAMEWORDS + NAMEWORDS * p ≡ NAMEWORDS * suc p = omega arith in
-    ap (λ (l : List ℕ). unpacked (take NAMEWORDS l)) (drop-drop (NAMEWORDS * p) NAMEWORDS ws ∙ ap (λ (n : ℕ). drop n ws) e)
+    ap (take NAMEWORDS) (drop-drop (NAMEWORDS * p) NAMEWORDS ws ∙ ap (λ (n : ℕ). drop n ws) e)
 
 pub name-cut : (k : ℕ) (ws : List ℕ) (i : ℕ) (d : List ℕ) → i < k → getD (cutNames k ws) i d ≡ nameAt ws i
 unfolding cutNames
 name-cut zero ws i d h = absurd (not-suc-le-zero h)
 name-cut (suc k) ws zero d h = refl
-name-cut (suc k) ws (suc i) d h = name-cut k (drop NAMEWORDS ws) i d (le-of-suc-le-suc h) ∙ nameAt-next ws i
+name-cut (suc k) ws (suc i) d h = name-cut k (drop NAMEWORDS ws) i d (le-of-suc-le-suc h) ∙ ap unpacked (wordsAt-next ws i)
 
 module _ (ws : List ℕ) (i : ℕ) where
   abbrev from : ℕ → List (List ℕ)

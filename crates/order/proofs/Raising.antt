@@ -40,12 +40,12 @@ module _ (place : ℕ) (ps : List ℕ) (at i : ℕ) (h : at ≤ i) (k : i < leng
 -- ---- the first places after it, and the names at them
 
 -- what is written is read back, after what stood before it
-pub take-over-through : {A : Type 0} (at : ℕ) (xs m : List A) → at + length xs ≤ length m → take (at + length xs) (over at xs m) ≡ take at m ++ xs
+take-over-through : {A : Type 0} (at : ℕ) (xs m : List A) → at + length xs ≤ length m → take (at + length xs) (over at xs m) ≡ take at m ++ xs
 take-over-through at xs m h =
     take-add at (length xs) (over at xs m) ∙ ap₂ (λ (a b : _). a ++ b) (take-over at at xs m (omega arith)) (part-over at xs m h)
 
 module _ (at held place : ℕ) (ps : List ℕ) (h : at ≤ held) (k : held < length ps) where
-  pub take-raised : take (held + 1) (raised at held place ps) ≡ take at ps ++ (place ∷ part at (held - at) ps)
+  take-raised : take (held + 1) (raised at held place ps) ≡ take at ps ++ (place ∷ part at (held - at) ps)
   take-raised =
       let l : length (part at (held - at) ps) ≡ held - at = length-take-le (held - at) (drop at ps) (omega (arith, length-drop at ps)) in
       let e : held + 1 ≡ at + suc (length (part at (held - at) ps)) = omega arith in

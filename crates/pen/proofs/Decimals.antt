@@ -1,4 +1,4 @@
--- A number in decimal is the figures of its tenth part and its last figure, and has at most twenty. Assumes nothing.
+-- A number in decimal is the figures of its tenth part and its last figure. Assumes nothing.
 use mathlib.Core.Path.{_≡_, refl, ap, sym, _∙_}
 use mathlib.Core.Bool.{Bool, true, false}
 use mathlib.Core.List.{List, [], _∷_, _++_}
@@ -7,7 +7,6 @@ use native.Mathlib.Nat.{div-lt-iff-lt-mul, pow-suc}
 use native.Mathlib.Omega.{arith}
 use borrow.Author.Tests.{lt-ltb, le-ltb}
 use lib.Dec.{ltb, lit<}
-use lib.ListN.{length, length-append}
 use Rattle.plain.specs.Choice.{if_then_else_}
 use Rattle.plain.specs.Bytes.{ZERO}
 use Rattle.pen.specs.Figures.{decimalUpTo, decimal}
@@ -38,13 +37,3 @@ decimal-rest k n h = rw (le-ltb n 10 h)
 
 pub decimal-more : (n : ℕ) → 10 ≤ n → n < 18446744073709551616 → decimal n ≡ decimal (n / 10) ++ figure n
 decimal-more n h l = decimal-rest 19 n h ∙ ap (λ (l : List ℕ). l ++ figure n) (sym (room-for-more 18 (n / 10) (omega arith)))
-
--- a number has at most the figures that it may have
-pub length-decimalUpTo : (k n : ℕ) → length (decimalUpTo k n) ≤ k
-unfolding decimalUpTo
-length-decimalUpTo zero n = omega arith
-length-decimalUpTo (suc k) n = by (ltb n 10) (length-decimalUpTo k (n / 10))
-  where
-    by : (t : Bool) → length (decimalUpTo k (n / 10)) ≤ k → length (if t then (ZERO + n) ∷ [] else (decimalUpTo k (n / 10) ++ figure n)) ≤ suc k
-    by true r = omega arith
-    by false r = omega (arith, length-append (decimalUpTo k (n / 10)) (figure n))

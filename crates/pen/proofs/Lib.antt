@@ -1,2 +1,4 @@
 -- Laws of what is written.
-pub mod Decimals
+pub mod Between
+mod Decimals
+pub mod Lengths

@@ -3,11 +3,10 @@
 use mathlib.Core.Path.{_≡_, refl, sym, ap, _∙_}
 use mathlib.Core.Bool.{true}
 use mathlib.Core.List.{List, [], _∷_, map}
-use Prim.Native.Nat.{ℕ, zero, suc, _+_, _*_, _<_}
+use Prim.Native.Nat.{ℕ, zero, suc, _<_}
 use native.Mathlib.Nat.{not-suc-le-zero, le-of-suc-le-suc}
 use native.Mathlib.Omega.{arith}
 use lib.ListN.{length, take, drop}
-use lib.Seq.{drop-drop}
 use Rattle.text.specs.Statements.{Statement}
 use Rattle.plain.proofs.Each.{Each, each-weaken}
 use Rattle.words.proofs.Each.{WORD, Words}
@@ -23,6 +22,7 @@ use Rattle.layout.proofs.Holds.{program-decode, decode-legal, decode-bounded}
 use Rattle.order.specs.Order.{inserted, names}
 use Rattle.shown.specs.Shown.{namesIn, valuesOf}
 use Rattle.order.specs.Places.{Legible, nameCount, wordsAt, cutNames, ordered}
+use Rattle.order.proofs.Named.{wordsAt-next}
 use Rattle.shown.proofs.Together.{each-value}
 
 -- ---- names
@@ -31,9 +31,7 @@ named-at : (hs ns : List ℕ) (k : ℕ) → k < length hs → Named hs ns → ho
 named-at [] ns k h f = absurd (not-suc-le-zero h)
 named-at (x ∷ hs) ns zero h f = f .0
 named-at (x ∷ hs) ns (suc k) h f =
-    let e : NAMEWORDS + NAMEWORDS * k ≡ NAMEWORDS * suc k = omega arith in
-    sym (ap (λ (l : List ℕ). holdsName (take NAMEWORDS l)) (drop-drop (NAMEWORDS * k) NAMEWORDS ns ∙ ap (λ (j : ℕ). drop j ns) e))
-    ∙ named-at hs (drop NAMEWORDS ns) k (le-of-suc-le-suc h) (f .1)
+    sym (ap holdsName (wordsAt-next ns k)) ∙ named-at hs (drop NAMEWORDS ns) k (le-of-suc-le-suc h) (f .1)
 
 abbrev nameOf : Statement → List ℕ
 nameOf s = s .name

@@ -3,16 +3,14 @@ use mathlib.Core.Path.{_≡_, refl, sym, ap, ap₂, subst, _∙_}
 use mathlib.Core.Bool.{not}
 use mathlib.Core.List.{List, _++_, map}
 use Prim.Native.Nat.{ℕ, _+_, _≤_}
-use native.Mathlib.Nat.{zero-add}
 use native.Mathlib.Omega.{arith}
 use lib.Ieee.{Float, binary64, ofBits, isNan}
 use lib.ListN.{length, take, getD, length-map}
-use lib.Seq.{length-take-le}
 use mir.Syntax.{w64}
 use mir.Val.{Fits}
 use Rattle.words.specs.Over.{over}
 use Rattle.words.specs.Halves.{all}
-use Rattle.words.proofs.Over.{length-over}
+use Rattle.words.proofs.Over.{length-over, part-over}
 use Rattle.words.proofs.Each.{words-of}
 use Rattle.layout.specs.State.{Pool}
 use Rattle.layout.specs.Limits.{STATEMENTS, VALUES}
@@ -25,11 +23,10 @@ use Rattle.shown.specs.Shown.{VARIABLES, namesIn, valuesOf, counts, bitL
 use Rattle.words.specs.Placed.{Room, Writes}
 use Rattle.order.specs.Places.{Places, Ordering, Orders}
 use Rattle.pen.specs.Pen.{entry}
-use Rattle.shown.specs.Shows.{listed, doublesOf, bitsOf, Counting, Counts, Printing, Showing}
+use Rattle.shown.specs.Shows.{listed, doublesOf, bitsOf, valueLines, Counting, Counts, Valuing, Showing}
 use Rattle.shown.specs.declared.Ends.{Ends}
-use Rattle.order.proofs.Raising.{take-over-through}
 use Rattle.order.proofs.Named.{length-namesAt}
-use Rattle.words.proofs.Placed.{room-first, room-then, writes-then}
+use Rattle.words.proofs.Placed.{writes-same, room-first, room-then, writes-then}
 use Rattle.shown.proofs.Together.{values-few}
 use Rattle.shown.proofs.Held.{name-count, legible, ordered-names, small-values, word-values}
 use Rattle.shown.proofs.Doubles.{bits-back, numbers}
@@ -96,7 +93,7 @@ module _ (m out : List ℕ) (W : Showing m out) where
 
     module _ (a : ℕ) (x : List ℕ) (w : Writes 0 (entry VARIABLES count) out a x) where
       headed : Writes 0 (heading s) out a x
-      headed = subst (λ (l : List ℕ). Writes 0 l out a x) heads w
+      headed = writes-same heads w
 
       room-lines : Room a (lines s ++ (middle s ++ bitLines vs)) x
       room-lines = room-then (heading s) (lines s ++ (middle s ++ bitLines vs)) rooms headed
@@ -121,12 +118,6 @@ module _ (m out : List ℕ) (W : Showing m out) where
         room-middle : Room (ends .at) (middle s ++ bitLines vs) y
         room-middle = room-then (lines s) (middle s ++ bitLines vs) room-lines lined
 
-        mids : entry show.VALUES (ends .total) ≡ middle s
-        mids = ap (entry show.VALUES) total
-
-        pub room-total : Room (ends .at) (entry show.VALUES (ends .total)) y
-        room-total = subst (λ (l : List ℕ). Room (ends .at) l y) (sym mids) (room-first (middle s) (bitLines vs) room-middle)
-
         -- the values that were taken are the first ones
         taken : values' ≡ over 0 (map (ofBits binary64) vs) values
         taken = C .taken ∙ ap (λ (ns : List (List ℕ)). over 0 (doublesOf m ns) values) listed-names
@@ -134,38 +125,34 @@ module _ (m out : List ℕ) (W : Showing m out) where
         few : length vs ≤ length values
         few = omega (arith, values-few s, decode-fits m undamaged .values)
 
-        pub total-few : ends .total ≤ length values'
+        total-few : ends .total ≤ length values'
         total-few = omega (arith, total, few, ap length taken, length-over 0 (map (ofBits binary64) vs) values)
-
-        pub total-taken : ends .total ≡ length (take (ends .total) values')
-        total-taken = sym (length-take-le (ends .total) values' total-few)
 
         firsts : take (ends .total) values' ≡ map (ofBits binary64) vs
         firsts =
             let D : List Float = map (ofBits binary64) vs in
-            let k : ends .total ≡ 0 + length D = total ∙ sym (length-map vs (ofBits binary64)) ∙ sym (zero-add (length D)) in
-            ap₂ (λ (n : ℕ) (l : List Float). take n l) k taken ∙ take-over-through 0 D values (omega (arith, few, length-map vs (ofBits binary64)))
+            let k : ends .total ≡ length D = total ∙ sym (length-map vs (ofBits binary64)) in
+            ap₂ (λ (n : ℕ) (l : List Float). take n l) k taken ∙ part-over 0 D values (omega (arith, few, length-map vs (ofBits binary64)))
 
-        module _ (f : (i : ℕ) → Fits w64 (getD m i 0)) (b : ℕ) (z : List ℕ) (v : Writes (ends .at) (entry show.VALUES (ends .total)) y b z) where
+        module _ (f : (i : ℕ) → Fits w64 (getD m i 0)) where
           bits : bitsOf (take (ends .total) values') ≡ vs
           bits =
               ap bitsOf firsts
               ∙ bits-back vs (word-values m undamaged (words-of m (λ i. f i .fits)) (namesIn s)) (small-values m undamaged (namesIn s))
 
-          middled : Writes (ends .at) (middle s) y b z
-          middled = subst (λ (l : List ℕ). Writes (ends .at) l y b z) mids v
+          rests : valueLines (ends .total) values' ≡ middle s ++ bitLines vs
+          rests = ap₂ (λ (n : ℕ) (ws : List ℕ). entry show.VALUES n ++ bitLines ws) total bits
 
-          pub printing : Printing (take (ends .total) values') b z
-          printing =
+          pub valuing : Valuing ends values' y
+          valuing =
               record {
+                few = total-few;
                 numbers = ap (all (λ x. not (isNan x))) firsts ∙ numbers vs (small-values m undamaged (namesIn s));
-                room = subst (λ (l : List ℕ). Room b (bitLines l) z) (sym bits) (room-then (middle s) (bitLines vs) room-middle middled);
+                room = subst (λ (l : List ℕ). Room (ends .at) l y) (sym rests) room-middle;
               }
 
-          pub all-shown : (r : ℕ) (o : List ℕ) → Writes b (bitLines (bitsOf (take (ends .total) values'))) z r o → Writes 0 (shown s) out r o
-          all-shown r o u =
-              subst (λ (l : List ℕ). Writes 0 l out r o) (sym (parts s))
+          pub all-shown : (r : ℕ) (o : List ℕ) → Writes (ends .at) (valueLines (ends .total) values') y r o → Writes 0 (shown s) out r o
+          all-shown r o w =
+              writes-same (sym (parts s))
               (writes-then (heading s) (lines s ++ (middle s ++ bitLines vs)) headed
-              (writes-then (lines s) (middle s ++ bitLines vs) lined
-              (writes-then (middle s) (bitLines vs) middled
-              (subst (λ (l : List ℕ). Writes b (bitLines l) z r o) bits u))))
+              (writes-then (lines s) (middle s ++ bitLines vs) lined (writes-same rests w)))

@@ -2,9 +2,9 @@
 use Prim.Native.Nat.{ℕ, _+_, _≤_}
 use mathlib.Core.Path.{_≡_}
 use mathlib.Core.Bool.{true, not}
-use mathlib.Core.List.{List, map}
+use mathlib.Core.List.{List, _++_, map}
 use lib.Ieee.{Float, binary64, ofBits, toBits, isNan}
-use lib.ListN.{length}
+use lib.ListN.{length, take}
 use Rattle.words.specs.Over.{over}
 use Rattle.words.specs.Halves.{all}
 use Rattle.layout.specs.Limits.{NAMEWORDS}
@@ -16,7 +16,7 @@ use Rattle.variables.specs.Found.{doubles}
 use Rattle.variables.specs.declared.variable.Found.{Found}
 use Rattle.variables.specs.declared.variable.Found.the-variants.{Count, TooMany, Absent}
 use Rattle.pen.specs.Pen.{entry}
-use Rattle.shown.specs.Shown.{valuesOf, counts, bitLines, shown}
+use Rattle.shown.specs.Shown.{VALUES, valuesOf, counts, bitLines, shown}
 use Rattle.words.specs.Placed.{Room, Writes}
 use Rattle.order.specs.Places.{Places, namesAt}
 use Rattle.shown.specs.declared.Ends.{Ends}
@@ -86,6 +86,16 @@ bitsOf xs = map (toBits binary64) xs
 pub record Printing (xs : List Float) (at : ℕ) (out : List ℕ) : Type 0 where
   pub numbers : all (λ x. not (isNan x)) xs ≡ true
   pub room : Room at (bitLines (bitsOf xs)) out
+
+-- ---- how many values there are, and the bits of each
+
+abbrev pub valueLines : (total : ℕ) (values : List Float) → List ℕ
+valueLines total values = entry VALUES total ++ bitLines (bitsOf (take total values))
+
+pub record Valuing (ends : Ends) (values : List Float) (out : List ℕ) : Type 0 where
+  pub few : ends .total ≤ length values
+  pub numbers : all (λ x. not (isNan x)) (take (ends .total) values) ≡ true
+  pub room : Room (ends .at) (valueLines (ends .total) values) out
 
 -- ---- the whole
 

@@ -17,7 +17,7 @@ ghost use Rattle.layout.specs.Names.{unpacked};
 ghost use Rattle.layout.specs.Memory.{decode};
 ghost use Rattle.shown.specs.Shown.{shown, bitLines};
 ghost use Rattle.words.specs.Placed.{Writes};
-ghost use Rattle.shown.specs.Shows.{countOf, Taking, Takes, Adding, Adds, listed, Counting, Counts, bitsOf, Printing, Showing};
+ghost use Rattle.shown.specs.Shows.{countOf, Taking, Takes, Adding, Adds, listed, Counting, Counts, bitsOf, valueLines, Valuing, Printing, Showing};
 
 // Where the next byte of the output goes, and how many values were taken.
 pub struct Ends {
@@ -34,10 +34,7 @@ pub fn show(pool: &[u64], out: &mut [u8]) -> usize
     let mut values = no_values();
     let counts = write_entry(out, 0, b"variables", count as u64);
     let ends = show_counts(pool, &places, count, out, &mut values, counts);
-    let at = ends.at;
-    let total = ends.total;
-    let bits = write_entry(out, at, b"values", total as u64);
-    write_values(out, bits, &values[..total])
+    show_values(out, &values, ends)
 }
 
 // Room for the place of every statement's name.
@@ -116,6 +113,16 @@ fn count_of(found: Found) -> usize
         Found::TooMany => 0,
         Found::Absent => 0,
     }
+}
+
+// How many values were taken, and the bits of each.
+fn show_values(out: &mut [u8], values: &[f64], ends: Ends) -> usize
+    requires { ⌜ Valuing ends (now values) (now out) ⌝ }
+    ensures { λ r. ⌜ Writes (ends .at) (valueLines (ends .total) (now (values .entry))) (now (out .entry)) r (now (out .exit)) ⌝ }
+{
+    let total = ends.total;
+    let bits = write_entry(out, ends.at, b"values", total as u64);
+    write_values(out, bits, &values[..total])
 }
 
 // The bits of each value on a line.

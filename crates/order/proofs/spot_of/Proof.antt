@@ -1,6 +1,6 @@
 -- `spot_of` meets its contract: what is left of the names held has the spot that all have. Assumes nothing.
 use mathlib.Core.Path.{_≡_, sym, ap, ap₂, _∙_}
-use mathlib.Core.Bool.{true, false}
+use mathlib.Core.Bool.{Bool, true, false}
 use mathlib.Core.List.{List}
 use Prim.Native.Nat.{ℕ, _+_, _-_, _≤_, _<_}
 use native.Mathlib.Omega.{arith}
@@ -42,17 +42,16 @@ module _ (ws : List ℕ) (held place : ℕ) (ps : List ℕ) (I : Inserting ws he
   alike : length a ≡ length b
   alike = ap length x ∙ length-wordsAt ws place (I .named) ∙ sym (ap length y ∙ length-wordsAt ws (getD ps at 0) placed)
 
+  -- names that compare as their words do compare as the words in hand
+  in-hand : (R : List ℕ → List ℕ → Bool) → R name (nameAt ws (getD ps at 0)) ≡ R (wordsAt ws place) (wordsAt ws (getD ps at 0))
+      → R name (getD names at (nameAt ws 0)) ≡ R a b
+  in-hand R e = ap (R name) (name-held ws held ps (I .places) at h) ∙ e ∙ sym (ap₂ R x y)
+
   before-held : before name (getD names at (nameAt ws 0)) ≡ before a b
-  before-held =
-      ap (before name) (name-held ws held ps (I .places) at h)
-      ∙ before-at ws words (I .names) place (getD ps at 0) (I .named) placed
-      ∙ sym (ap₂ before x y)
+  before-held = in-hand before (before-at ws words (I .names) place (getD ps at 0) (I .named) placed)
 
   equal-held : equal name (getD names at (nameAt ws 0)) ≡ equal a b
-  equal-held =
-      ap (equal name) (name-held ws held ps (I .places) at h)
-      ∙ equal-at ws words (I .names) place (getD ps at 0) (I .named) placed
-      ∙ sym (ap₂ equal x y)
+  equal-held = in-hand equal (equal-at ws words (I .names) place (getD ps at 0) (I .named) placed)
 
   within : at < length names
   within = omega (arith, length-namesAt ws held ps (I .places))

@@ -3,7 +3,8 @@ use mathlib.Core.Path.{subst, sym}
 use mathlib.Core.List.{List}
 use Prim.Native.Nat.{ℕ}
 use borrow.Author.Needs.{needs}
-use Rattle.words.specs.Placed.{Room, Writes}
+use Rattle.words.specs.Placed.{Room}
+use Rattle.words.proofs.Placed.{writes-same}
 use Rattle.pen.proofs.write_bits.Statement.{statement}
 use Rattle.pen.proofs.write_bits.Tie as tie
 
@@ -29,8 +30,7 @@ returns : tie.Need-returns
 returns c =
     let w = c .before .before in
     let d = w .before .before .before .before in
-    let s = d .before .before .before in
-    subst (λ (l : List ℕ). Writes (s .args .at) l (s .args .out .now) (w .append .result) (w .append .last .1 .0)) (d .spell .ensures) (w .append .ensures)
+    writes-same (d .spell .ensures) (w .append .ensures)
 
 pub write-bits-spec : {M : Type 1} → statement M
 write-bits-spec =

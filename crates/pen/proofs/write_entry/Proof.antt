@@ -5,9 +5,9 @@ use Prim.Native.Nat.{ℕ}
 use borrow.Author.Needs.{needs}
 use Rattle.plain.specs.Bytes.{LF, SPACE}
 use Rattle.pen.specs.Figures.{decimal}
-use Rattle.words.specs.Placed.{Room, Writes}
+use Rattle.words.specs.Placed.{Room}
 use Rattle.pen.specs.Pen.{phrase, entry}
-use Rattle.words.proofs.Placed.{room-first, room-then, writes-then}
+use Rattle.words.proofs.Placed.{writes-same, room-first, room-then, writes-then}
 use Rattle.pen.proofs.write_entry.Statement.{statement}
 use Rattle.pen.proofs.write_entry.Tie as tie
 
@@ -17,9 +17,6 @@ module _ (word : List ℕ) (n : ℕ) where
 
   room-parts : {at : ℕ} {m : List ℕ} → Room at (entry word n) m → Room at (phrase word n ++ (LF ∷ [])) m
   room-parts {at} {m} f = subst (λ (l : List ℕ). Room at l m) (sym parts) f
-
-  writes-parts : {at : ℕ} {m : List ℕ} {r : ℕ} {o : List ℕ} → Writes at (phrase word n ++ (LF ∷ [])) m r o → Writes at (entry word n) m r o
-  writes-parts {at} {m} {r} {o} w = subst (λ (l : List ℕ). Writes at l m r o) parts w
 
 write-phrase-requires : tie.Need-write-phrase-requires
 write-phrase-requires c κs =
@@ -40,7 +37,7 @@ returns c =
     let b = c .before .before in
     let p = b .before .before .before .before in
     let s = p .before .before .before .before in
-    writes-parts (s .args .word .now) (s .args .n)
+    writes-same (parts (s .args .word .now) (s .args .n))
     (writes-then (phrase (s .args .word .now) (s .args .n)) (LF ∷ []) (p .write-phrase .ensures) (b .write-byte .ensures))
 
 pub write-entry-spec : {M : Type 1} → statement M

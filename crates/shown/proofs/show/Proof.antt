@@ -1,6 +1,6 @@
 -- `show` meets its contract: the parts of what is shown are written one after the other. Assumes nothing.
 use borrow.Author.Needs.{needs}
-use Rattle.shown.proofs.Showing.{sized, ordering, room-heading, counting, room-total, total-few, total-taken, printing, all-shown}
+use Rattle.shown.proofs.Showing.{sized, ordering, room-heading, counting, valuing, all-shown}
 use Rattle.shown.proofs.show.Statement.{statement}
 use Rattle.shown.proofs.show.Tie as tie
 
@@ -49,50 +49,19 @@ show-counts-requires c κs =
     let s = n .before .before .before .before in
     counting _ _ (s .pre) _ _ (n .names-of .ensures) _ _ (o .order .ensures) _ _ (w .write-entry .ensures) _ (v .no-values .ensures)
 
-slice-aggregate-write-entry-2 : tie.Need-slice-aggregate-write-entry-2
-slice-aggregate-write-entry-2 c = search needs
+slice-aggregate-show-values : tie.Need-slice-aggregate-show-values
+slice-aggregate-show-values c = search needs
 
-write-entry-requires-2 : tie.Need-write-entry-requires-2
-write-entry-requires-2 c κs =
+show-values-requires : tie.Need-show-values-requires
+show-values-requires c κs =
     let k = c .before .before .before .before .before in
     let w = k .before .before .before .before .before .before in
     let v = w .before .before .before in
     let o = v .before .before in
     let n = o .before .before in
     let s = n .before .before .before .before in
-    room-total _ _ (s .pre) _ _ (n .names-of .ensures) _ _ (o .order .ensures) _ _ (w .write-entry .ensures) _ (v .no-values .ensures) _ _ _ (k .show-counts .ensures)
-
-array-share-prefix-values : tie.Need-array-share-prefix-values
-array-share-prefix-values c =
-    let k = c .before .before .before .before .before .before .before .before .before in
-    let w = k .before .before .before .before .before .before in
-    let v = w .before .before .before in
-    let o = v .before .before in
-    let n = o .before .before in
-    let s = n .before .before .before .before in
-    total-few _ _ (s .pre) _ _ (n .names-of .ensures) _ _ (o .order .ensures) _ _ (w .write-entry .ensures) _ (v .no-values .ensures) _ _ _ (k .show-counts .ensures)
-
-slice-aggregate-write-values : tie.Need-slice-aggregate-write-values
-slice-aggregate-write-values c =
-    let k = c .before .before .before .before .before .before .before .before .before .before in
-    let w = k .before .before .before .before .before .before in
-    let v = w .before .before .before in
-    let o = v .before .before in
-    let n = o .before .before in
-    let s = n .before .before .before .before in
-    total-taken _ _ (s .pre) _ _ (n .names-of .ensures) _ _ (o .order .ensures) _ _ (w .write-entry .ensures) _ (v .no-values .ensures) _ _ _ (k .show-counts .ensures)
-
-write-values-requires : tie.Need-write-values-requires
-write-values-requires c κs =
-    let t = c .before .before .before .before in
-    let k = t .before .before .before .before .before .before in
-    let w = k .before .before .before .before .before .before in
-    let v = w .before .before .before in
-    let o = v .before .before in
-    let n = o .before .before in
-    let s = n .before .before .before .before in
-    printing _ _ (s .pre) _ _ (n .names-of .ensures) _ _ (o .order .ensures) _ _ (w .write-entry .ensures) _ (v .no-values .ensures) _ _ _ (k .show-counts .ensures)
-    (n .before .before .before .shared-slice-known .given) _ _ (t .write-entry2 .ensures)
+    valuing _ _ (s .pre) _ _ (n .names-of .ensures) _ _ (o .order .ensures) _ _ (w .write-entry .ensures) _ (v .no-values .ensures) _ _ _ (k .show-counts .ensures)
+    (n .before .before .before .shared-slice-known .given)
 
 same-length : tie.Need-same-length
 same-length c = search needs
@@ -100,15 +69,14 @@ same-length c = search needs
 returns : tie.Need-returns
 returns c =
     let u = c .before .before in
-    let t = u .before .before .before .before .before in
-    let k = t .before .before .before .before .before .before in
+    let k = u .before .before .before .before .before .before in
     let w = k .before .before .before .before .before .before in
     let v = w .before .before .before in
     let o = v .before .before in
     let n = o .before .before in
     let s = n .before .before .before .before in
     all-shown _ _ (s .pre) _ _ (n .names-of .ensures) _ _ (o .order .ensures) _ _ (w .write-entry .ensures) _ (v .no-values .ensures) _ _ _ (k .show-counts .ensures)
-    (n .before .before .before .shared-slice-known .given) _ _ (t .write-entry2 .ensures) _ _ (u .write-values .ensures)
+    (n .before .before .before .shared-slice-known .given) _ _ (u .show-values .ensures)
 
 pub show-spec : {M : Type 1} → statement M
 show-spec =
@@ -124,10 +92,7 @@ show-spec =
     slice-aggregate-show-counts
     slice-aggregate-show-counts-2
     show-counts-requires
-    slice-aggregate-write-entry-2
-    write-entry-requires-2
-    array-share-prefix-values
-    slice-aggregate-write-values
-    write-values-requires
+    slice-aggregate-show-values
+    show-values-requires
     same-length
     returns)

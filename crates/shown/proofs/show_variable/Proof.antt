@@ -1,15 +1,17 @@
 -- `show_variable` meets its contract: the bytes spread from the words begin with the name, and the values taken are counted on its line.
 -- Assumes nothing.
-use mathlib.Core.Path.{_≡_, refl, sym, ap, ap₂, subst, _∙_}
-use mathlib.Core.List.{List, [], _∷_}
+use mathlib.Core.Path.{_≡_, sym, ap, ap₂, subst, _∙_}
+use mathlib.Core.List.{List}
 use Prim.Native.Nat.{ℕ, _+_, _≤_}
 use native.Mathlib.Omega.{arith}
 use borrow.Author.Needs.{needs}
 use lib.Ieee.{Float}
 use lib.ListN.{length, replicate}
+use lib.Seq.{take-all}
 use Rattle.plain.specs.Runs.{run}
 use Rattle.text.specs.Classes.{nameByte}
 use Rattle.words.specs.Over.{over}
+use Rattle.words.proofs.Over.{length-over, part-over}
 use Rattle.layout.specs.Names.{bytes, unpacked}
 use Rattle.layout.specs.Memory.{decode}
 use Rattle.variables.specs.Found.{doubles}
@@ -23,11 +25,7 @@ use Rattle.shown.proofs.show_variable.Tie as tie
 
 -- as many bytes written as there are leave none of the first
 over-whole : (xs m : List ℕ) → length xs ≡ length m → over 0 xs m ≡ xs
-unfolding over
-over-whole [] [] h = refl
-over-whole [] (y ∷ m) h = absurd (omega arith)
-over-whole (x ∷ xs) [] h = absurd (omega arith)
-over-whole (x ∷ xs) (y ∷ m) h = ap (λ (l : List ℕ). x ∷ l) (over-whole xs m (omega arith))
+over-whole xs m h = sym (take-all (length xs) (over 0 xs m) (omega (arith, length-over 0 xs m))) ∙ part-over 0 xs m (omega arith)
 
 module _ (m ws : List ℕ) (ends : Ends) (out : List ℕ) (values : List Float) (A : Adding m ws ends out values)
     (room name : List ℕ) (r : room ≡ over 0 (bytes ws) (replicate 32 0)) (n : name ≡ run nameByte room) where

@@ -8,7 +8,6 @@ use native.Mathlib.Omega.{arith}
 use borrow.Author.Needs.{needs}
 use borrow.Author.Tests.{le-leb}
 use borrow.Rule.Slice.PartMut.{putMid}
-use lib.Dec.{leb}
 use lib.Ieee.{Float, binary64, ofBits}
 use lib.ListN.{length, take, drop, length-drop}
 use lib.Seq.{length-take-le}
@@ -20,7 +19,7 @@ use Rattle.layout.specs.Memory.{decode}
 use Rattle.variables.specs.Variables.{variable, present}
 use Rattle.variables.specs.Found.{doubles, foundIn, filled, Finds}
 use Rattle.variables.specs.declared.variable.Found.{Found}
-use Rattle.variables.specs.declared.variable.Found.the-variants.{Count, TooMany, Absent}
+use Rattle.variables.specs.declared.variable.Found.the-variants.{Count, Absent}
 use Rattle.variables.proofs.Presence.{absent-empty}
 use Rattle.shown.specs.Shows.{countOf, size, Taking, Takes}
 use Rattle.shown.proofs.Lending.{put-end}
@@ -28,22 +27,22 @@ use Rattle.shown.proofs.take_values.Statement.{statement}
 use Rattle.shown.proofs.take_values.Tie as tie
 
 module _ (name : List ℕ) (room : ℕ) (s : Pool) (h : length (variable name s) ≤ room) where
-  count-found : countOf (foundIn name room s) ≡ length (variable name s)
+  found-is : foundIn name room s ≡ (if present name s then Count (length (variable name s)) else Absent)
   unfolding foundIn
-  count-found = by (present name s) refl
+  found-is = rw (le-leb _ _ h)
+
+  count-found : countOf (foundIn name room s) ≡ length (variable name s)
+  count-found = ap countOf found-is ∙ by (present name s) refl
     where
-      by : (t : Bool) → present name s ≡ t
-          → countOf (if t then (if leb (length (variable name s)) room then Count (length (variable name s)) else TooMany) else Absent) ≡ length (variable name s)
-      by true e = rw (le-leb _ _ h)
+      by : (t : Bool) → present name s ≡ t → countOf (if t then Count (length (variable name s)) else Absent) ≡ length (variable name s)
+      by true e = refl
       by false e = sym (ap length (absent-empty name s e))
 
   filled-found : (before : List Float) → filled (foundIn name room s) (doubles name s) before ≡ over 0 (doubles name s) before
-  unfolding foundIn
-  filled-found before = by (present name s) refl
+  filled-found before = ap (λ (f : Found). filled f (doubles name s) before) found-is ∙ by (present name s) refl
     where
-      by : (t : Bool) → present name s ≡ t
-          → filled (if t then (if leb (length (variable name s)) room then Count (length (variable name s)) else TooMany) else Absent) (doubles name s) before ≡ over 0 (doubles name s) before
-      by true e = rw (le-leb _ _ h)
+      by : (t : Bool) → present name s ≡ t → filled (if t then Count (length (variable name s)) else Absent) (doubles name s) before ≡ over 0 (doubles name s) before
+      by true e = refl
       by false e = sym (ap (λ (l : List ℕ). over 0 (map (ofBits binary64) l) before) (absent-empty name s e) ∙ over-nil 0 before)
 
 -- the end of the values is lent

@@ -1,22 +1,11 @@
 -- `write_refusal` meets its contract: the number, a space and the line are written one after the other. Assumes nothing.
-use mathlib.Core.List.{List, [], _∷_, _++_}
-use Prim.Native.Nat.{ℕ}
 use borrow.Author.Needs.{needs}
 use Rattle.plain.specs.Bytes.{SPACE}
-use Rattle.listing.specs.Listing.{REFUSED, LINE}
-use Rattle.words.specs.Placed.{Room, Writes}
 use Rattle.pen.specs.Pen.{phrase, entry}
-use Rattle.words.proofs.Placed.{room-first, room-then, writes-then}
+use Rattle.pen.proofs.Between.{room-before, room-between, room-after, writes-three}
+use Rattle.listing.specs.Listing.{REFUSED, LINE}
 use Rattle.listing.proofs.list.write_refusal.Statement.{statement}
 use Rattle.listing.proofs.list.write_refusal.Tie as tie
-
--- after the number
-module _ (number line : ℕ) {m : List ℕ} (f : Room 0 (phrase REFUSED number ++ (SPACE ∷ entry LINE line)) m) {a : ℕ} {x : List ℕ} (w : Writes 0 (phrase REFUSED number) m a x) where
-  room-rest : Room a ((SPACE ∷ []) ++ entry LINE line) x
-  room-rest = room-then (phrase REFUSED number) (SPACE ∷ entry LINE line) f w
-
-  room-space : Room a (SPACE ∷ []) x
-  room-space = room-first (SPACE ∷ []) (entry LINE line) room-rest
 
 slice-aggregate-write-phrase : tie.Need-slice-aggregate-write-phrase
 slice-aggregate-write-phrase c = search needs
@@ -24,13 +13,13 @@ slice-aggregate-write-phrase c = search needs
 write-phrase-requires : tie.Need-write-phrase-requires
 write-phrase-requires c κs =
     let s = c .before .before .before in
-    room-first (phrase REFUSED (s .args .number)) (SPACE ∷ entry LINE (s .args .line)) (s .pre)
+    room-before (phrase REFUSED (s .args .number)) SPACE (entry LINE (s .args .line)) (s .pre)
 
 write-byte-requires : tie.Need-write-byte-requires
 write-byte-requires c κs =
     let p = c .before .before .before in
     let s = p .before .before .before .before in
-    room-space (s .args .number) (s .args .line) (s .pre) (p .write-phrase .ensures)
+    room-between (phrase REFUSED (s .args .number)) SPACE (entry LINE (s .args .line)) (p .write-phrase .ensures) (s .pre)
 
 slice-aggregate-write-entry : tie.Need-slice-aggregate-write-entry
 slice-aggregate-write-entry c = search needs
@@ -40,7 +29,7 @@ write-entry-requires c κs =
     let b = c .before .before .before .before in
     let p = b .before .before .before .before in
     let s = p .before .before .before .before in
-    room-then (SPACE ∷ []) (entry LINE (s .args .line)) (room-rest (s .args .number) (s .args .line) (s .pre) (p .write-phrase .ensures)) (b .write-byte .ensures)
+    room-after (phrase REFUSED (s .args .number)) SPACE (entry LINE (s .args .line)) (p .write-phrase .ensures) (b .write-byte .ensures) (s .pre)
 
 same-length : tie.Need-same-length
 same-length c = search needs
@@ -51,8 +40,7 @@ returns c =
     let b = e .before .before .before .before .before in
     let p = b .before .before .before .before in
     let s = p .before .before .before .before in
-    writes-then (phrase REFUSED (s .args .number)) (SPACE ∷ entry LINE (s .args .line)) (p .write-phrase .ensures)
-    (writes-then (SPACE ∷ []) (entry LINE (s .args .line)) (b .write-byte .ensures) (e .write-entry .ensures))
+    writes-three (phrase REFUSED (s .args .number)) SPACE (entry LINE (s .args .line)) (p .write-phrase .ensures) (b .write-byte .ensures) (e .write-entry .ensures)
 
 pub write-refusal-spec : {M : Type 1} → statement M
 write-refusal-spec =
