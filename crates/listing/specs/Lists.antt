@@ -1,4 +1,4 @@
--- What the function does that makes the listing of a text. Definitions only.
+-- What the function owes that makes the listing of a text, and the room for it. Definitions only.
 use Prim.Native.Nat.{ℕ}
 use mathlib.Core.Path.{_≡_}
 use mathlib.Core.List.{List}

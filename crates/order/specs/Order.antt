@@ -1,4 +1,4 @@
--- "The variables in byte order of names": each name of some statements once, in order. Definitions only.
+-- "the variables in byte order of names": each name of some statements once, in order. Definitions only.
 use Prim.Native.Nat.{ℕ}
 use mathlib.Core.Bool.{Bool, true, false, _&&_, _||_}
 use mathlib.Core.List.{List, [], _∷_}

@@ -1,4 +1,4 @@
-// "The variables in byte order of names": the places of a pool's names, in the order of the names, each name once.
+// "the variables in byte order of names": the places of a pool's names, in the order of the names, each name once.
 pub mod names;
 
 use layout::limits::NAMEWORDS;

@@ -1,4 +1,4 @@
--- A word in hexadecimal, in upper case, as the listing prints bits. Definitions only.
+-- A word in hexadecimal digits, in upper case. Definitions only.
 use Prim.Native.Nat.{ℕ, zero, suc, _+_, _-_, _/_, _%_}
 use mathlib.Core.List.{List, [], _∷_, _++_}
 use lib.Dec.{ltb}

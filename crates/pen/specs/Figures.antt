@@ -1,4 +1,4 @@
--- Numbers as the listing prints them: in decimal, and the bits of a double in upper-case hexadecimal. Definitions only.
+-- Numbers as they are written: in decimal, and the bits of a double in upper-case hexadecimal. Definitions only.
 use Prim.Native.Nat.{ℕ, zero, suc, _+_, _/_, _%_}
 use mathlib.Core.List.{List, [], _∷_, _++_}
 use lib.Dec.{ltb}

@@ -1,4 +1,4 @@
--- What is written more than once. Definitions only.
+-- A word and a number with a space between them, alone and as a line. Definitions only.
 use Prim.Native.Nat.{ℕ}
 use mathlib.Core.List.{List, [], _∷_, _++_}
 use Rattle.plain.specs.Bytes.{LF, SPACE}

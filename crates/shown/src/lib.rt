@@ -1,4 +1,4 @@
-// "The variables in byte order of names, each with its count, then how many values these variables have together and the bits of
+// "the variables in byte order of names, each with its count, then how many values these variables have together and the bits of
 // each, in the same order": of an undamaged pool.
 use layout::area::names_of;
 use order::names::name_at;
