@@ -5,8 +5,8 @@ use Prim.Native.Nat.{ℕ, _+_, _*_, _≤_}
 use native.Mathlib.Omega.{arith}
 use lib.ListN.{length, length-append}
 use Rattle.plain.specs.Bytes.{LF, SPACE}
-use Rattle.text.specs.Statements.{NAME}
 use Rattle.plain.proofs.Each.{Each, each-weaken}
+use Rattle.text.specs.Statements.{NAME}
 use Rattle.layout.specs.State.{Pool, program, flat}
 use Rattle.layout.specs.Memory.{decode}
 use Rattle.layout.proofs.Sound.{Sound}
@@ -15,13 +15,13 @@ use Rattle.layout.proofs.Names.{legible-of}
 use Rattle.layout.proofs.Holds.{decode-legal, decode-fits}
 use Rattle.variables.specs.Variables.{variable}
 use Rattle.pen.specs.Figures.{decimal, bits}
-use Rattle.shown.specs.Shown.{VARIABLES, VALUES, namesIn, valuesOf, counts, bitLines, shown}
-use Rattle.listing.specs.Listing.{LINE, REFUSED}
 use Rattle.pen.specs.Pen.{phrase, entry}
-use Rattle.listing.specs.Lists.{SIZE}
 use Rattle.pen.proofs.Lengths.{length-decimalUpTo, length-entry, length-digits}
 use Rattle.order.proofs.Rising.{each-names, length-names}
+use Rattle.shown.specs.Shown.{VARIABLES, VALUES, namesIn, valuesOf, counts, bitLines, shown}
 use Rattle.shown.proofs.Together.{values-few}
+use Rattle.listing.specs.Listing.{LINE, REFUSED}
+use Rattle.listing.specs.Lists.{SIZE}
 
 length-bitLines : (ws : List ℕ) → length (bitLines ws) ≡ 17 * length ws
 unfolding bitLines flat

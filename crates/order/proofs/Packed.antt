@@ -11,9 +11,9 @@ use lib.ListN.{length, length-append}
 use Rattle.plain.specs.Choice.{if_then_else_}
 use Rattle.plain.specs.Lists.{equal}
 use Rattle.plain.specs.Runs.{run, skip}
+use Rattle.plain.proofs.Tests.{both, first-then, true-false}
 use Rattle.text.specs.Classes.{nameByte}
 use Rattle.words.specs.Halves.{all}
-use Rattle.plain.proofs.Tests.{both, first-then, true-false}
 use Rattle.words.proofs.Each.{WORD, Words}
 use Rattle.layout.specs.Names.{bytesOf, bytes, unpacked, holdsName}
 use Rattle.order.specs.Order.{before}

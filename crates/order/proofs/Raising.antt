@@ -8,10 +8,10 @@ use borrow.Author.Tests.{lt-ltb}
 use lib.Dec.{ltb}
 use lib.ListN.{length, take, drop, getD, set, length-drop, length-map}
 use lib.Seq.{getD-drop, length-take-le, take-add, take-at, drop-at}
+use Rattle.plain.proofs.Each.{Each, each-append, each-left, each-right}
 use Rattle.words.specs.Over.{over, part}
 use Rattle.words.specs.Halves.{all}
 use Rattle.words.proofs.Over.{over-turn, getD-over-after, take-over, part-over, length-over}
-use Rattle.plain.proofs.Each.{Each, each-append, each-left, each-right}
 use Rattle.words.proofs.Each.{all-each, each-all}
 use Rattle.order.specs.Places.{Places, nameCount, nameAt, namesAt, raised}
 

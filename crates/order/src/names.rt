@@ -5,8 +5,8 @@ use words::read::part_of;
 ghost use mathlib.Core.Path.{_≡_};
 ghost use Prim.Native.Nat.{_+_, _*_, _%_, _≤_, _<_};
 ghost use lib.ListN.{length};
-ghost use Rattle.layout.specs.Names.{bytesOf, bytes};
 ghost use Rattle.words.specs.Over.{over};
+ghost use Rattle.layout.specs.Names.{bytesOf, bytes};
 ghost use Rattle.order.specs.Order.{before};
 ghost use Rattle.order.specs.Places.{nameCount, wordsAt};
 

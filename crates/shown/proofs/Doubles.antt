@@ -8,8 +8,8 @@ use borrow.Author.Tests.{ltb-true, ne-eqb}
 use lib.Dec.{T, eqb}
 use lib.Ieee.{nan, inf, Format, binary64, prec, low, hid, ones, top, odd, ofFields, ofBits, isNan}
 use lib.Ieee.Bits.{toBits-ofBits}
-use Rattle.words.specs.Halves.{all}
 use Rattle.plain.proofs.Each.{Each}
+use Rattle.words.specs.Halves.{all}
 use Rattle.words.proofs.Each.{Words}
 use Rattle.layout.specs.Damage.{exponentField, small}
 use Rattle.shown.specs.Shows.{bitsOf}

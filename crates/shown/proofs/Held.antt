@@ -7,8 +7,8 @@ use Prim.Native.Nat.{ℕ, zero, suc, _<_}
 use native.Mathlib.Nat.{not-suc-le-zero, le-of-suc-le-suc}
 use native.Mathlib.Omega.{arith}
 use lib.ListN.{length, take, drop}
-use Rattle.text.specs.Statements.{Statement}
 use Rattle.plain.proofs.Each.{Each, each-weaken}
+use Rattle.text.specs.Statements.{Statement}
 use Rattle.words.proofs.Each.{WORD, Words}
 use Rattle.layout.specs.State.{program}
 use Rattle.layout.specs.Limits.{NAMEWORDS}
@@ -20,9 +20,9 @@ use Rattle.layout.proofs.Sound.{Named, Sound}
 use Rattle.layout.proofs.Legal.{Fair}
 use Rattle.layout.proofs.Holds.{program-decode, decode-legal, decode-bounded}
 use Rattle.order.specs.Order.{inserted, names}
-use Rattle.shown.specs.Shown.{namesIn, valuesOf}
 use Rattle.order.specs.Places.{Legible, nameCount, wordsAt, cutNames, ordered}
 use Rattle.order.proofs.Named.{wordsAt-next}
+use Rattle.shown.specs.Shown.{namesIn, valuesOf}
 use Rattle.shown.proofs.Together.{each-value}
 
 -- ---- names

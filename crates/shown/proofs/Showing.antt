@@ -10,23 +10,23 @@ use mir.Syntax.{w64}
 use mir.Val.{Fits}
 use Rattle.words.specs.Over.{over}
 use Rattle.words.specs.Halves.{all}
+use Rattle.words.specs.Placed.{Room, Writes}
 use Rattle.words.proofs.Over.{length-over, part-over}
 use Rattle.words.proofs.Each.{words-of}
+use Rattle.words.proofs.Placed.{writes-same, room-first, room-then, writes-then}
 use Rattle.layout.specs.State.{Pool}
 use Rattle.layout.specs.Limits.{STATEMENTS, VALUES}
 use Rattle.layout.specs.Memory.{nameWords, decode}
 use Rattle.layout.specs.Damage.{Framed}
 use Rattle.layout.proofs.Sound.{Sound, sound-of}
 use Rattle.layout.proofs.Holds.{decode-fits}
+use Rattle.pen.specs.Pen.{entry}
+use Rattle.order.specs.Places.{Places, Ordering, Orders}
+use Rattle.order.proofs.Named.{length-namesAt}
 use Rattle.shown.specs.Shown as show
 use Rattle.shown.specs.Shown.{VARIABLES, namesIn, valuesOf, counts, bitLines, shown}
-use Rattle.words.specs.Placed.{Room, Writes}
-use Rattle.order.specs.Places.{Places, Ordering, Orders}
-use Rattle.pen.specs.Pen.{entry}
 use Rattle.shown.specs.Shows.{listed, doublesOf, bitsOf, valueLines, Counting, Counts, Valuing, Showing}
 use Rattle.shown.specs.declared.Ends.{Ends}
-use Rattle.order.proofs.Named.{length-namesAt}
-use Rattle.words.proofs.Placed.{writes-same, room-first, room-then, writes-then}
 use Rattle.shown.proofs.Together.{values-few}
 use Rattle.shown.proofs.Held.{name-count, legible, ordered-names, small-values, word-values}
 use Rattle.shown.proofs.Doubles.{bits-back, numbers}

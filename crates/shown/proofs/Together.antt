@@ -6,15 +6,15 @@ use Prim.Native.Nat.{ℕ, _+_, _≤_}
 use native.Mathlib.Omega.{arith}
 use lib.ListN.{length, length-append}
 use Rattle.plain.specs.Choice.{if_then_else_}
-use Rattle.text.specs.Statements.{Statement}
 use Rattle.plain.proofs.Each.{Each, each-append}
+use Rattle.text.specs.Statements.{Statement}
 use Rattle.words.proofs.Same.{same-equal}
 use Rattle.layout.specs.State.{Pool, program, flat, valuesOf, values}
 use Rattle.variables.specs.Variables.{has, assigns, any, since, gives, variable}
 use Rattle.order.specs.Order.{before}
+use Rattle.order.proofs.Rising.{Rising, rising-names, before-not-equal}
 use Rattle.shown.specs.Shown.{namesIn}
 use Rattle.shown.specs.Shown as show
-use Rattle.order.proofs.Rising.{Rising, rising-names, before-not-equal}
 
 -- ---- one variable
 

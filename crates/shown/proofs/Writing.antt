@@ -6,11 +6,11 @@ use native.Mathlib.Numerals.{add-one}
 use native.Mathlib.Omega.{arith}
 use lib.ListN.{length, take, drop, getD, length-append, take-append-drop}
 use lib.Seq.{take-suc, take-all}
+use Rattle.words.specs.Placed.{Room, Writes}
 use Rattle.words.proofs.Placed.{writes-nothing, room-first, room-then, writes-then}
 use Rattle.words.proofs.Steps.{drop-next}
 use Rattle.layout.specs.State.{flat}
 use Rattle.layout.proofs.Columns.{flat-append, flat-one}
-use Rattle.words.specs.Placed.{Room, Writes}
 
 module _ {A : Type 0} (f : A → List ℕ) (xs : List A) (i : ℕ) (d : A) (h : i < length xs) where
   pub flat-next : flat f (take (i + 1) xs) ≡ flat f (take i xs) ++ f (getD xs i d)

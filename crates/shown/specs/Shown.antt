@@ -7,9 +7,9 @@ use Rattle.plain.specs.Ascii.{ascii}
 use Rattle.plain.specs.Bytes.{LF}
 use Rattle.layout.specs.State.{Pool, program, flat}
 use Rattle.variables.specs.Variables.{variable}
-use Rattle.order.specs.Order.{names}
 use Rattle.pen.specs.Figures.{bits}
 use Rattle.pen.specs.Pen.{entry}
+use Rattle.order.specs.Order.{names}
 
 -- the words of two lines
 abbrev pub VARIABLES : List ℕ

@@ -7,6 +7,7 @@ use lib.Ieee.{Float, binary64, ofBits, toBits, isNan}
 use lib.ListN.{length, take}
 use Rattle.words.specs.Over.{over}
 use Rattle.words.specs.Halves.{all}
+use Rattle.words.specs.Placed.{Room, Writes}
 use Rattle.layout.specs.Limits.{NAMEWORDS}
 use Rattle.layout.specs.Names.{unpacked}
 use Rattle.layout.specs.Memory.{nameWords, decode}
@@ -16,9 +17,8 @@ use Rattle.variables.specs.Found.{doubles}
 use Rattle.variables.specs.declared.variable.Found.{Found}
 use Rattle.variables.specs.declared.variable.Found.the-variants.{Count, TooMany, Absent}
 use Rattle.pen.specs.Pen.{entry}
-use Rattle.shown.specs.Shown.{VALUES, valuesOf, counts, bitLines, shown}
-use Rattle.words.specs.Placed.{Room, Writes}
 use Rattle.order.specs.Places.{Places, namesAt}
+use Rattle.shown.specs.Shown.{VALUES, valuesOf, counts, bitLines, shown}
 use Rattle.shown.specs.declared.Ends.{Ends}
 
 -- ---- a variable's values, written after those before them

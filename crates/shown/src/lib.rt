@@ -12,11 +12,11 @@ use variables::variable::Found;
 use variables::variable::variable;
 ghost use mathlib.Core.Path.{_≡_};
 ghost use lib.ListN.{length};
+ghost use Rattle.words.specs.Placed.{Writes};
 ghost use Rattle.layout.specs.Limits.{STATEMENTS, VALUES};
 ghost use Rattle.layout.specs.Names.{unpacked};
 ghost use Rattle.layout.specs.Memory.{decode};
 ghost use Rattle.shown.specs.Shown.{shown, bitLines};
-ghost use Rattle.words.specs.Placed.{Writes};
 ghost use Rattle.shown.specs.Shows.{countOf, Taking, Takes, Adding, Adds, listed, Counting, Counts, bitsOf, valueLines, Valuing, Printing, Showing};
 
 // Where the next byte of the output goes, and how many values were taken.

@@ -5,10 +5,10 @@ use mathlib.Core.List.{List, _++_}
 use native.Mathlib.Omega.{arith}
 use borrow.Fn.Kinds.{In}
 use borrow.Fn.PlainCycle.{Measures, is, falls, and}
-use Rattle.pen.specs.Figures.{decimal}
 use Rattle.words.specs.Placed.{Room, Writes}
-use Rattle.pen.proofs.Decimals.{figure, decimal-last, decimal-more}
 use Rattle.words.proofs.Placed.{writes-length, writes-same, room-first, room-then, writes-then}
+use Rattle.pen.specs.Figures.{decimal}
+use Rattle.pen.proofs.Decimals.{figure, decimal-last, decimal-more}
 use Rattle.pen.proofs.write_decimal.Reads as write-decimal
 use Rattle.pen.proofs.write_decimal.Kinds as write-decimal-kinds
 use Rattle.pen.proofs.+write_decimal.Lts-write_decimal as write-decimal-lts

@@ -4,10 +4,10 @@ use mathlib.Core.List.{List, [], _∷_, _++_, append-assoc}
 use Prim.Native.Nat.{ℕ}
 use borrow.Author.Needs.{needs}
 use Rattle.plain.specs.Bytes.{LF, SPACE}
-use Rattle.pen.specs.Figures.{decimal}
 use Rattle.words.specs.Placed.{Room}
-use Rattle.pen.specs.Pen.{phrase, entry}
 use Rattle.words.proofs.Placed.{writes-same, room-first, room-then, writes-then}
+use Rattle.pen.specs.Figures.{decimal}
+use Rattle.pen.specs.Pen.{phrase, entry}
 use Rattle.pen.proofs.write_entry.Statement.{statement}
 use Rattle.pen.proofs.write_entry.Tie as tie
 

@@ -2,8 +2,8 @@
 use mathlib.Core.List.{[], _∷_}
 use borrow.Author.Needs.{needs}
 use Rattle.plain.specs.Bytes.{LF}
-use Rattle.pen.specs.Figures.{bits}
 use Rattle.words.proofs.Placed.{room-first, room-then, writes-then}
+use Rattle.pen.specs.Figures.{bits}
 use Rattle.pen.proofs.write_line.Statement.{statement}
 use Rattle.pen.proofs.write_line.Tie as tie
 

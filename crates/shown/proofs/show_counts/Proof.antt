@@ -7,19 +7,19 @@ use lib.Ieee.{Float, binary64, ofBits}
 use lib.ListN.{length, take, getD, length-append, length-map}
 use lib.Seq.{take-all}
 use Rattle.words.specs.Over.{over}
+use Rattle.words.specs.Placed.{Room, Writes}
 use Rattle.words.proofs.Over.{over-nil, over-append, length-over}
+use Rattle.words.proofs.Placed.{writes-length}
 use Rattle.layout.specs.State.{flat}
 use Rattle.layout.specs.Names.{unpacked}
 use Rattle.layout.specs.Memory.{nameWords, decode}
 use Rattle.layout.proofs.Sound.{sound-of}
 use Rattle.variables.specs.Variables.{variable}
-use Rattle.shown.specs.Shown.{counts, valuesOf}
-use Rattle.words.specs.Placed.{Room, Writes}
 use Rattle.order.specs.Places.{nameCount, nameAt, wordsAt}
+use Rattle.order.proofs.Named.{length-wordsAt, length-namesAt, name-held, place-held}
+use Rattle.shown.specs.Shown.{counts, valuesOf}
 use Rattle.shown.specs.Shows.{line, size, listed, Adding, Adds, Counting, Counts}
 use Rattle.shown.specs.declared.Ends.{Ends}
-use Rattle.order.proofs.Named.{length-wordsAt, length-namesAt, name-held, place-held}
-use Rattle.words.proofs.Placed.{writes-length}
 use Rattle.shown.proofs.Writing.{writes-none, writes-all, room-next, writes-next, flat-next, flat-within}
 use Rattle.shown.proofs.show_counts.Statement.{statement}
 use Rattle.shown.proofs.show_counts.Tie as tie

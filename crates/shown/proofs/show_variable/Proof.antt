@@ -11,15 +11,15 @@ use lib.Seq.{take-all}
 use Rattle.plain.specs.Runs.{run}
 use Rattle.text.specs.Classes.{nameByte}
 use Rattle.words.specs.Over.{over}
+use Rattle.words.specs.Placed.{Room, Writes}
 use Rattle.words.proofs.Over.{length-over, part-over}
 use Rattle.layout.specs.Names.{bytes, unpacked}
 use Rattle.layout.specs.Memory.{decode}
 use Rattle.variables.specs.Found.{doubles}
 use Rattle.pen.specs.Pen.{entry}
-use Rattle.words.specs.Placed.{Room, Writes}
+use Rattle.order.proofs.Packed.{length-bytes}
 use Rattle.shown.specs.Shows.{size, Taking, Takes, Adding, Adds}
 use Rattle.shown.specs.declared.Ends.{Ends}
-use Rattle.order.proofs.Packed.{length-bytes}
 use Rattle.shown.proofs.show_variable.Statement.{statement}
 use Rattle.shown.proofs.show_variable.Tie as tie
 

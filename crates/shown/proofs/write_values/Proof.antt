@@ -9,13 +9,13 @@ use lib.Ieee.{Float, nan, binary64, toBits, isNan}
 use lib.ListN.{length, take, getD, length-map, List·getD-map}
 use Rattle.plain.specs.Bytes.{LF}
 use Rattle.plain.proofs.Each.{each-at}
+use Rattle.words.specs.Placed.{Room, Writes}
 use Rattle.words.proofs.Each.{all-each}
+use Rattle.words.proofs.Placed.{writes-length}
 use Rattle.layout.specs.State.{flat}
 use Rattle.pen.specs.Figures.{bits}
 use Rattle.shown.specs.Shown.{bitLines}
-use Rattle.words.specs.Placed.{Room, Writes}
 use Rattle.shown.specs.Shows.{bitsOf, Printing}
-use Rattle.words.proofs.Placed.{writes-length}
 use Rattle.shown.proofs.Writing.{writes-none, writes-all, room-next, writes-next}
 use Rattle.shown.proofs.write_values.Statement.{statement}
 use Rattle.shown.proofs.write_values.Tie as tie

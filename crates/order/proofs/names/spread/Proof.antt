@@ -5,11 +5,11 @@ use Prim.Native.Nat.{ℕ, _+_, _*_, _-_, _≤_, _<_}
 use native.Mathlib.Omega.{arith}
 use lib.ListN.{length, drop, getD}
 use Rattle.words.specs.Over.{over}
+use Rattle.words.specs.Placed.{Room, Writes}
 use Rattle.words.proofs.Over.{over-nil, over-append}
 use Rattle.words.proofs.Steps.{drop-next, drop-end}
-use Rattle.layout.specs.Names.{bytesOf, bytes}
-use Rattle.words.specs.Placed.{Room, Writes}
 use Rattle.words.proofs.Placed.{writes-length}
+use Rattle.layout.specs.Names.{bytesOf, bytes}
 use Rattle.order.proofs.names.spread.Statement.{statement}
 use Rattle.order.proofs.names.spread.Tie as tie
 
