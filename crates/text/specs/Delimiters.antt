@@ -1,4 +1,5 @@
--- "A line that, without outer blanks, is exactly `\begindata` or `\begintext` opens the section it names." Definitions only.
+-- "A line that, without outer blanks, is exactly `\begindata` or `\begintext` opens the section it names, even from within it."
+-- Definitions only.
 use Prim.Native.Nat.{ℕ}
 use mathlib.Core.Bool.{Bool, false, _&&_}
 use mathlib.Core.List.{List, [], _∷_}

@@ -54,7 +54,7 @@ section R.Data r = next r []
 section R.Open r = fault F.OpenList 0
 section R.Filled r = fault F.OpenList 0
 
--- a line that is no delimiter: "text-section lines are skipped, their bytes unread"
+-- a line that is no delimiter: "Text-section lines are skipped, their bytes unread"
 abbrev pub plain : Reader → List ℕ → Outcome
 plain R.Text line = next R.Text []
 plain R.Data line = fairly line (stated line (head line))

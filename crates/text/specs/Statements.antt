@@ -1,4 +1,5 @@
--- "Name .. Then, blanks optional, `=` (direct) or `+=` (append). Then a number, or `(` .." Definitions only.
+-- "Name: the longest run of letters, digits or underscores, 1 to 32 of them; case counts." "Then, blanks optional, `=` (direct) or `+=`
+-- (append)." Definitions only.
 use Prim.Native.Nat.{ℕ, _+_, _-_}
 use mathlib.Core.Bool.{_&&_}
 use mathlib.Core.List.{List, [], _∷_}

@@ -17,7 +17,7 @@ pub data Read : Type 0 where
   fine : List Event → Read
   refused : Fault → (line place : ℕ) → Read
 
--- "End of text inside one is SYNTAX at the last line": after so many lines, the last one so long
+-- "end of text inside one is SYNTAX at the last line": after so many lines, the last one so long
 abbrev pub finished : Reader → (number long : ℕ) → Read
 finished R.Text number long = fine []
 finished R.Data number long = fine []

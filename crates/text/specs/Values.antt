@@ -1,4 +1,4 @@
--- "A number, or `(` with at least one number and `)`": a line's values from a place on. Definitions only.
+-- "Then a number, or `(` with at least one number and `)`.": a line's values from a place on. Definitions only.
 use Prim.Native.Nat.{ℕ, zero, suc, _+_}
 use mathlib.Core.Bool.{Bool, true, false, _||_}
 use mathlib.Core.List.{List, [], _∷_}
