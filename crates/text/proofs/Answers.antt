@@ -6,9 +6,9 @@ use lib.Dec.{ltb}
 use lib.ListN.{length}
 use Rattle.plain.specs.Choice.{if_then_else_}
 use Rattle.plain.specs.Runs.{past}
-use Rattle.text.specs.Lines.{LONGEST}
 use Rattle.text.specs.Classes.{fair}
 use Rattle.text.specs.Delimiters.{markOf}
+use Rattle.text.specs.Lengths.{LONGEST-LINE, tooLong}
 use Rattle.text.specs.Line.{Outcome, next, fault, adding, stated, fairly, section, plain, marked, answered}
 use Rattle.text.specs.Statements.{head}
 use Rattle.text.specs.Values.{listed}
@@ -54,8 +54,8 @@ module _ (P : Outcome → Type 0) (faulty : (q : Fault) (k : ℕ) → P (fault q
 
     pub holds-answered : P (answered r line)
     unfolding answered
-    holds-answered = by (ltb LONGEST (length line))
+    holds-answered = by (tooLong (markOf line) r (length line))
       where
-        by : (t : Bool) → P (if t then fault F.TooLong LONGEST else marked (markOf line) r line)
-        by true = faulty F.TooLong LONGEST
+        by : (t : Bool) → P (if t then fault F.TooLong LONGEST-LINE else marked (markOf line) r line)
+        by true = faulty F.TooLong LONGEST-LINE
         by false = holds-marked (markOf line)

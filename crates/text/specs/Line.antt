@@ -6,9 +6,9 @@ use lib.Dec.{ltb}
 use lib.ListN.{length, take, drop}
 use Rattle.plain.specs.Choice.{if_then_else_}
 use Rattle.plain.specs.Runs.{past}
-use Rattle.text.specs.Lines.{LONGEST}
 use Rattle.text.specs.Classes.{fair}
 use Rattle.text.specs.Delimiters.{markOf}
+use Rattle.text.specs.Lengths.{LONGEST-LINE, tooLong}
 use Rattle.text.specs.Values.{Given, given, wrong, listed, givenAt}
 use Rattle.text.specs.Statements.{Event, opened, value, head, openings, givings}
 use Rattle.text.specs.declared.line.Answer.{Answer}
@@ -66,8 +66,9 @@ marked M.Data r line = section r R.Data
 marked M.Text r line = section r R.Text
 marked M.Plain r line = plain r line
 
+-- "3 is now given for a data or delimiter line over 132, and its place is unchanged": before all else of the line
 unfoldable pub answered : Reader → List ℕ → Outcome
-answered r line = if ltb LONGEST (length line) then fault F.TooLong LONGEST else marked (markOf line) r line
+answered r line = if tooLong (markOf line) r (length line) then fault F.TooLong LONGEST-LINE else marked (markOf line) r line
 
 -- ---- the answer as the code gives it: how many statements are opened and how many values given
 

@@ -1,5 +1,5 @@
 -- "Lines end at LF; one CR just before it is dropped, and length is counted without it; a last line needs no LF, and after a final LF
--- there is no further line; lines count from 1. No line is over 79 bytes, text sections included." Definitions only.
+-- there is no further line; lines count from 1." Definitions only.
 use Prim.Native.Nat.{ℕ, _+_, _-_, _≤_, _<_}
 use mathlib.Core.Path.{_≡_}
 use mathlib.Core.Bool.{Bool, false, _&&_}
@@ -9,10 +9,6 @@ use lib.ListN.{length, take, drop}
 use Rattle.plain.specs.Choice.{if_then_else_}
 use Rattle.plain.specs.Bytes.{LF, CR}
 use Rattle.text.specs.declared.lines.Cut.{Cut}
-
--- the longest line
-abbrev pub LONGEST : ℕ
-LONGEST = 79
 
 -- a byte before the first of some lines, or alone on a last line
 abbrev pub before : ℕ → List (List ℕ) → List (List ℕ)

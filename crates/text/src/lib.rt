@@ -2,6 +2,7 @@
 pub mod classes;
 pub mod delimiters;
 pub mod faults;
+pub mod lengths;
 pub mod line;
 pub mod lines;
 pub mod statements;

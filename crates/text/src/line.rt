@@ -4,7 +4,8 @@ use crate::classes::Class;
 use crate::delimiters;
 use crate::delimiters::Mark;
 use crate::faults::Fault;
-use crate::lines::LONGEST;
+use crate::lengths;
+use crate::lengths::LONGEST_LINE;
 use crate::statements;
 use crate::statements::Head;
 use crate::values;
@@ -12,7 +13,7 @@ use crate::values::Taken;
 ghost use mathlib.Core.Path.{_≡_};
 ghost use mathlib.Core.List.{[]};
 ghost use Rattle.text.specs.Values.{listed};
-ghost use Rattle.text.specs.Line.{answered, counted, section, plain, fairly, adding, answerOf};
+ghost use Rattle.text.specs.Line.{answered, counted, marked, section, plain, fairly, adding, answerOf};
 
 // How the reader stands between two lines: in a text section, in a data section, or there in a list without or with numbers so far.
 pub enum Reader {
@@ -32,10 +33,17 @@ pub enum Answer {
 pub fn line_step(reader: Reader, line: &[u8]) -> Answer
     ensures { λ r. ⌜ r ≡ counted (answered reader (now (line .entry))) ⌝ }
 {
-    if LONGEST < line.len() {
-        return Answer::Fault(Fault::TooLong, LONGEST);
-    }
     let mark = delimiters::read_mark(line);
+    if lengths::is_too_long(mark, reader, line.len()) {
+        return Answer::Fault(Fault::TooLong, LONGEST_LINE);
+    }
+    marked(mark, reader, line)
+}
+
+// A line that is not too long, by the section that it opens, if any.
+fn marked(mark: Mark, reader: Reader, line: &[u8]) -> Answer
+    ensures { λ r. ⌜ r ≡ counted (marked mark reader (now (line .entry))) ⌝ }
+{
     match mark {
         Mark::Data => open_section(reader, Reader::Data),
         Mark::Text => open_section(reader, Reader::Text),

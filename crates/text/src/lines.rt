@@ -5,9 +5,6 @@ ghost use Prim.Native.Nat.{_<_};
 ghost use lib.ListN.{length};
 ghost use Rattle.text.specs.Lines.{Cuts};
 
-// No line is over so many bytes.
-pub const LONGEST: usize = 79;
-
 // Where a line's bytes end, and where the next line starts.
 pub struct Cut {
     pub end: usize,

@@ -9,9 +9,9 @@ use lib.Ieee.{Float}
 use lib.ListN.{length, take, drop}
 use Rattle.plain.specs.Choice.{if_then_else_}
 use Rattle.plain.specs.Runs.{past}
-use Rattle.text.specs.Lines.{LONGEST}
 use Rattle.text.specs.Classes.{fair}
 use Rattle.text.specs.Delimiters.{markOf}
+use Rattle.text.specs.Lengths.{LONGEST-LINE, tooLong}
 use Rattle.text.specs.Values.{Given, given, wrong, listed, givenAt}
 use Rattle.text.specs.Statements.{Event, opened, value, head}
 use Rattle.text.specs.Line.{Outcome, next, fault, adding, stated, fairly, section, plain, marked, answered}
@@ -56,9 +56,9 @@ section-next R.Filled t s es e = let z : _≡_ {A = ℕ} 0 1 = cc in absurd (ome
 
 pub answered-next : (r : Reader) (line : List ℕ) (s : Reader) (es : List Event) → answered r line ≡ next s es → marked (markOf line) r line ≡ next s es
 unfolding answered
-answered-next r line s es = by (ltb LONGEST (length line))
+answered-next r line s es = by (tooLong (markOf line) r (length line))
   where
-    by : (b : Bool) → (if b then fault F.TooLong LONGEST else marked (markOf line) r line) ≡ next s es → marked (markOf line) r line ≡ next s es
+    by : (b : Bool) → (if b then fault F.TooLong LONGEST-LINE else marked (markOf line) r line) ≡ next s es → marked (markOf line) r line ≡ next s es
     by true e = let z : _≡_ {A = ℕ} 0 1 = cc in absurd (omega arith)
     by false e = e
 
