@@ -1,10 +1,10 @@
-//! The limits of document 01, each under its name.
+//! The limits of document 01, each under its name; K1 of document 02 has the one of lines.
 
 /// The bytes of a text that can be loaded.
 pub const TEXT_BYTES: usize = 65_536;
 
-/// The bytes of a line, its end not counted.
-pub const LINE_BYTES: usize = 79;
+/// The bytes of a data or delimiter line, its end not counted.
+pub const LINE_BYTES: usize = 132;
 
 /// The bytes of a name.
 pub const NAME_BYTES: usize = 32;

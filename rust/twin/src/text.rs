@@ -1,4 +1,4 @@
-//! A text to its statements: document 01, "Text rules".
+//! A text to its statements: document 01, "Text rules", with the lines of K1 of document 02.
 //! One scanner reads a text line by line and tells a sink what it meets; it keeps no more than
 //! whether a list is open. Reading from left to right, the first fault met is the first there is.
 
@@ -92,17 +92,19 @@ fn first_line(text: &[u8]) -> (&[u8], &[u8]) {
 
 /// The state after a line, or the line's first fault.
 fn scan_line(state: State, line: &[u8], sink: &mut impl Sink) -> Result<State, Refusal> {
+    let section = delimited(line);
+    if state == State::Text && section.is_none() {
+        return Ok(State::Text);
+    }
+    // Here a line is a data or delimiter line; all others may have any length.
     if line.len() > LINE_BYTES {
         return Err(Refusal::LineTooLong);
     }
-    if let Some(section) = delimited(line) {
+    if let Some(section) = section {
         return match state {
             State::Text | State::Data => Ok(section),
             State::List { .. } => Err(Refusal::Syntax),
         };
-    }
-    if state == State::Text {
-        return Ok(State::Text);
     }
     if !line.iter().all(|b| matches!(b, b' '..=b'~' | b'\t')) {
         return Err(Refusal::BadByte);

@@ -185,10 +185,11 @@ fn refusals_of_a_load_come_in_order() {
         |p| load(p, 2, &too_long),
         at(Refusal::TextTooLong, 0),
     );
+    let long_line = data(&"?".repeat(133));
     refuses(
         &mut pool,
-        |p| load(p, 2, &too_long[1..]),
-        at(Refusal::LineTooLong, 1),
+        |p| load(p, 2, &long_line),
+        at(Refusal::LineTooLong, 2),
     );
     let many = "A=1\n".repeat(512);
     refuses(

@@ -90,27 +90,71 @@ fn line_ends() {
 }
 
 #[test]
-fn no_line_is_over_79_bytes() {
-    let line = "x".repeat(79);
-    admitted(&line, &[]);
-    admitted(format!("{line}\r\n{line}\n{line}"), &[]);
-    refused(format!("{line}x"), LineTooLong, 1);
-    refused(format!("{line}x\n"), LineTooLong, 1);
-    refused(format!("\n{line}\r"), LineTooLong, 2);
-    refused(format!("{line}\r\r\n"), LineTooLong, 1);
-    let blanks = " ".repeat(69);
-    admitted(format!("{blanks}\\begindata\nX = 1"), &["X = 1"]);
-    refused(format!("{blanks} \\begindata\nX = 1"), LineTooLong, 1);
-    let statement = format!("X = 1{}", " ".repeat(74));
+fn a_data_line_may_have_132_bytes() {
+    let statement = format!("X = 1{}", " ".repeat(127));
     admitted(data(&statement), &["X = 1"]);
-    refused(data(&format!("{statement} ")), LineTooLong, 2);
-    admitted(data(&format!("{statement}\r\n")), &["X = 1"]);
-    refused(data(&" ".repeat(80)), LineTooLong, 2);
-    refused(
-        data(&format!("X = ( 1\n{}\n)", " ".repeat(80))),
-        LineTooLong,
-        3,
+    admitted(
+        data(&format!("{statement}\n{statement}\r\n")),
+        &["X = 1"; 2],
     );
+    for end in [" ", " \n", " \r\n", "\r", "\r\r\n", "\u{1}\n"] {
+        refused(data(&format!("{statement}{end}")), LineTooLong, 2);
+    }
+    let blanks = " ".repeat(133);
+    refused(data(&blanks), LineTooLong, 2);
+    refused(data(&format!("X = ( 1\n{blanks}\n)")), LineTooLong, 3);
+    admitted(data(&format!("X = ( 1\n{}\n)", &blanks[1..])), &["X = 1"]);
+}
+
+#[test]
+fn a_line_of_a_text_section_may_have_any_length() {
+    let line = "x".repeat(133);
+    admitted(&line, &[]);
+    admitted(format!("{line}\r\n{line}\r\r\n{line}\r"), &[]);
+    admitted(data(&format!("X = 1\n\\begintext\n{line}")), &["X = 1"]);
+    for byte in ["\0", " ", "x", "\r", "\u{ff}"] {
+        admitted(byte.repeat(65_536), &[]);
+    }
+}
+
+#[test]
+fn a_delimiter_line_may_have_132_bytes_in_either_section() {
+    for (before, after) in [(122, 0), (0, 122), (61, 61), (1, 121)] {
+        let (before, after) = (" ".repeat(before), "\t".repeat(after));
+        let opening = format!("{before}\\begindata{after}");
+        let closing = format!("{before}\\begintext{after}");
+        admitted(format!("{opening}\nX = 1"), &["X = 1"]);
+        admitted(format!("{opening}\r\nX = 1"), &["X = 1"]);
+        admitted(data(&format!("{closing}\nX = ?")), &[]);
+        refused(data(&format!("X = ( 1\n{closing}\n)")), Syntax, 3);
+        for pad in [1, 2, 300, 5_000] {
+            let pad = " ".repeat(pad);
+            for line in [format!("{pad}{opening}"), format!("{opening}{pad}")] {
+                refused(format!("{line}\nX = 1"), LineTooLong, 1);
+                refused(&line, LineTooLong, 1);
+                refused(data(&format!("X = ( 1\n{line}\n)")), LineTooLong, 3);
+            }
+            for line in [format!("{pad}{closing}"), format!("{closing}{pad}")] {
+                refused(format!("\n{line}\n"), LineTooLong, 2);
+                refused(data(&line), LineTooLong, 2);
+            }
+        }
+        admitted(format!("{opening} x\nX = 1"), &[]);
+        admitted(format!("x {opening}\nX = 1"), &[]);
+    }
+}
+
+#[test]
+fn a_carriage_return_counts_unless_it_stands_before_a_line_feed() {
+    let line = format!("\\begintext{}", " ".repeat(122));
+    admitted(data(&format!("{line}\r\n?")), &[]);
+    refused(data(&format!("{line}\r")), LineTooLong, 2);
+    refused(data(&format!("{line}\r\r\n")), LineTooLong, 2);
+    refused(format!("{line} \r\n"), LineTooLong, 1);
+    // A carriage return is no blank, so this is text.
+    admitted(format!("{line}\r"), &[]);
+    admitted(format!("{line} \r"), &[]);
+    admitted(format!("{line}\r\r\n"), &[]);
 }
 
 #[test]
@@ -270,7 +314,7 @@ fn delimiters_and_the_end_inside_a_list() {
 
 #[test]
 fn the_order_of_faults_in_a_line() {
-    let long_and_bad = format!("X = 1E99 \u{1}{}", " ".repeat(80));
+    let long_and_bad = format!("X = 1E99 \u{1}{}", " ".repeat(133));
     refused(data(&long_and_bad), LineTooLong, 2);
     refused(data("X = 1E99 \u{1}"), BadByte, 2);
     refused(data("X = ? \u{7f}"), BadByte, 2);
@@ -292,12 +336,10 @@ fn the_first_faulty_line_decides() {
     refused(data("X = 1E99\n?\n\u{1}"), Number, 2);
     refused(data("?\nX = 1E99"), Syntax, 2);
     refused(data("\u{1}\n?"), BadByte, 2);
-    refused(data(&format!("X = (1\n{}", "x".repeat(80))), LineTooLong, 3);
-    refused(
-        format!("{}\n\\begindata\n?", "x".repeat(80)),
-        LineTooLong,
-        1,
-    );
+    let long = "x".repeat(133);
+    refused(data(&format!("X = (1\n{long}\n?")), LineTooLong, 3);
+    refused(data(&format!("?\n{long}")), Syntax, 2);
+    refused(format!("{long}\n\\begindata\n?"), Syntax, 3);
 }
 
 #[test]

@@ -171,11 +171,13 @@ fn removals(s: &mut Script) {
 /// Refusals of a load's text, and which of them comes first.
 fn text_faults(s: &mut Script) {
     let long_line = "x".repeat(LINE_BYTES + 1);
+    let long_delimiter = format!("{}\\begindata", " ".repeat(LINE_BYTES));
     s.empty();
     s.load(1, &data("X = 1"));
     for text in [
-        long_line.clone(),
         data(&long_line),
+        format!("{long_line}\n{long_delimiter}\nX = 2"),
+        data(&format!("X = ( 2\n{long_delimiter}")),
         data("X = 1 \u{1}"),
         data("X = ("),
         data("X = ( )"),
@@ -193,6 +195,8 @@ fn text_faults(s: &mut Script) {
     s.fetch(9, "X");
     s.load(1, &data("X = 1"));
     s.load(1, "");
+    s.load(3, &format!("{}\n{}", long_line.repeat(20), data("X = 3")));
+    s.fetch(9, "X");
     s.load(
         2,
         &data("X = 9007199254740992\nX += 1E22\nX += 1.0E23\nX += 270.000"),

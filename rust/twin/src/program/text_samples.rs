@@ -1,5 +1,8 @@
-//! The texts that readers are compared on: every rule of document 01's "Text rules", its faults
-//! and its limits on both sides, kernels of the source documents, and mixtures of all that.
+//! The texts that readers are compared on: every rule of document 01's "Text rules" and of K1 of
+//! document 02, their faults and limits on both sides, kernels of the source documents, and
+//! mixtures of all that.
+
+use twin::limits::TEXT_BYTES;
 
 use super::random::Random;
 
@@ -380,6 +383,8 @@ pub fn samples() -> Vec<Vec<u8>> {
     texts.extend(WHOLE.iter().map(|text| text.as_bytes().to_vec()));
     texts.extend(DATA.iter().map(|lines| data(lines)));
     add_line_lengths(&mut texts);
+    add_delimiter_lengths(&mut texts);
+    add_long_lines(&mut texts);
     add_name_lengths(&mut texts);
     add_bytes(&mut texts);
     add_long_texts(&mut texts);
@@ -395,30 +400,78 @@ fn data(lines: &str) -> Vec<u8> {
     format!("\\begindata\n{lines}").into_bytes()
 }
 
-/// Lines of 79 and 80 bytes in both sections, in lists, on delimiter lines, before every end.
+/// The ends that a line may have.
+const ENDS: [&str; 5] = ["", "\n", "\r\n", "\r", "\r\r\n"];
+
+/// Lengths of lines about the limit.
+const LENGTHS: [usize; 7] = [79, 80, 131, 132, 133, 134, 300];
+
+/// Lines about the limit in both sections, in lists, with other faults, before every end.
 fn add_line_lengths(texts: &mut Vec<Vec<u8>>) {
-    for length in [78, 79, 80, 81, 200] {
+    for length in LENGTHS {
         let words = "x".repeat(length);
         let blanks = " ".repeat(length);
         let statement = format!("X = 1{}", " ".repeat(length - 5));
         let digits = format!("X = {}1", "0".repeat(length - 5));
-        let delimiter = format!("{}\\begindata", " ".repeat(length - 10));
-        let trailed = format!("\\begindata{}", "\t".repeat(length - 10));
-        for end in ["", "\n", "\r\n", "\r", "\r\r\n"] {
+        for end in ENDS {
             texts.push(format!("{words}{end}").into_bytes());
             texts.push(data(&format!("{statement}{end}")));
         }
         texts.push(data(&blanks));
         texts.push(data(&digits));
         texts.push(data(&format!("X = ( 1\n{blanks}\n2 )")));
-        texts.push(data(&format!("X = ( 1\n{delimiter}\n2 )")));
+        texts.push(data(&format!("X = ( 1\n{words}\n2 )")));
         texts.push(data(&format!("\\begintext\n{words}\n\\begindata\nX = 1")));
-        texts.push(format!("{delimiter}\nX = 1\n").into_bytes());
-        texts.push(format!("{trailed}\nX = 1\n").into_bytes());
         texts.push(data(&format!("\u{1}{words}")));
         texts.push(data(&format!("X = 1E99 {words}")));
         texts.push(data(&format!("X = ?\n{words}")));
     }
+}
+
+/// Delimiter lines about the limit, blanks before, behind and on both sides, from both sections,
+/// in lists, before every end.
+fn add_delimiter_lengths(texts: &mut Vec<Vec<u8>>) {
+    for length in LENGTHS {
+        let blanks = length - 10;
+        for before in [0, blanks / 2, blanks] {
+            let (before, behind) = (" ".repeat(before), "\t".repeat(blanks - before));
+            let opening = format!("{before}\\begindata{behind}");
+            let closing = format!("{before}\\begintext{behind}");
+            for end in ENDS {
+                texts.push(format!("{opening}{end}").into_bytes());
+                texts.push(data(&format!("{closing}{end}")));
+            }
+            texts.push(format!("{opening}\r\nX = 1").into_bytes());
+            texts.push(format!("{closing}\n\\begindata\nX = 1").into_bytes());
+            texts.push(data(&format!("X = 1\n{opening}\nX = 1")));
+            texts.push(data(&format!("X = 1\n{closing}\nX = ?")));
+            texts.push(data(&format!("X = ( 1\n{closing}\n2 )")));
+            texts.push(format!("{opening}x\nX = 1").into_bytes());
+            texts.push(format!("x{opening}\nX = 1").into_bytes());
+        }
+    }
+}
+
+/// Text lines of thousands of bytes, and what a data line may hold among as many blanks.
+fn add_long_lines(texts: &mut Vec<Vec<u8>>) {
+    let blanks = " ".repeat(1_000);
+    for words in [
+        "\\begindata",
+        "\\begin data",
+        "\\begindata \\begindata",
+        "X = 1",
+    ] {
+        for line in [
+            format!("{blanks}{words}"),
+            format!("{words}{blanks}"),
+            format!("{blanks}{words}{blanks}"),
+        ] {
+            texts.push(format!("{line}\nX = 1").into_bytes());
+            texts.push(data(&line));
+        }
+    }
+    texts.push(format!("{blanks}\n\\begindata\nX = 1").into_bytes());
+    texts.push("x".repeat(TEXT_BYTES).into_bytes());
 }
 
 /// Names of 32 and 33 bytes.
