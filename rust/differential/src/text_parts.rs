@@ -1,11 +1,13 @@
 //! What texts are put together from: names, values, statements and lines, right ones and faulty
 //! ones.
 
+use twin::limits::LINE_BYTES;
+
 use crate::decimals::{inside, near, outside};
 use crate::random::Random;
 
 /// Lines of right texts are broken before they get longer than this.
-const BREAK: usize = 30;
+const BREAK: usize = 80;
 
 /// Names that come again, so that statements meet.
 const NAMES: &[&str] = &[
@@ -53,9 +55,19 @@ pub fn statement(random: &mut Random, end: &str) -> String {
         let count = random.one(&[1, 1, 2, 3, 3, 4, 6, 9]);
         list(&mut text, random, end, count);
     }
-    text.push_str(random.one(&["", "", "", " ", "\t "]));
+    if random.once_in(16) {
+        let blanks = random.between(LINE_BYTES - 1, LINE_BYTES) - last_line(&text);
+        text.push_str(&" ".repeat(blanks));
+    } else {
+        text.push_str(random.one(&["", "", "", " ", "\t "]));
+    }
     text.push_str(end);
     text
+}
+
+/// The bytes of the line that a text ends in.
+fn last_line(text: &str) -> usize {
+    text.len() - text.rfind('\n').map_or(0, |at| at + 1)
 }
 
 /// A list of so many numbers.
@@ -65,8 +77,7 @@ fn list(text: &mut String, random: &mut Random, end: &str, count: usize) {
         if place > 0 {
             text.push_str(random.one(&[" ", " ", ", ", ",", "\t", " , ", ",,"]));
         }
-        let line = text.len() - text.rfind('\n').map_or(0, |at| at + 1);
-        if line > BREAK || random.once_in(8) {
+        if last_line(text) > BREAK || random.once_in(8) {
             text.push_str(end);
             text.push_str(random.one(&["", "  ", "\t", ","]));
         }
@@ -77,13 +88,17 @@ fn list(text: &mut String, random: &mut Random, end: &str, count: usize) {
 
 /// A line of a text section, of any bytes, with its end.
 pub fn note(random: &mut Random, end: &str) -> Vec<u8> {
-    let mut line = match random.below(6) {
+    let mut line = match random.below(8) {
         0 => Vec::new(),
         1 => random.one(&NOTES).as_bytes().to_vec(),
-        2 => (0..random.below(80))
+        2 => (0..random.below(200))
             .map(|_| other_than_lf(random))
             .collect(),
-        3 => vec![b'x'; random.between(77, 79)],
+        3 => vec![b'x'; length(random)],
+        4 => {
+            let (note, length) = (random.one(&NOTES), length(random));
+            padded(random, note, length).into_bytes()
+        }
         _ => b"Some words about the numbers below.".to_vec(),
     };
     // A CR at the end would be dropped or counted by what follows it.
@@ -113,8 +128,34 @@ fn other_than_lf(random: &mut Random) -> u8 {
     }
 }
 
+/// A length about the limit of data and delimiter lines, or far over it.
+fn length(random: &mut Random) -> usize {
+    match random.below(10) {
+        0 => 300,
+        1 => random.between(1_000, 5_000),
+        _ => random.between(LINE_BYTES - 1, LINE_BYTES + 2),
+    }
+}
+
+/// A line of so many bytes, blanks before the words, behind them or on both sides.
+fn padded(random: &mut Random, words: &str, length: usize) -> String {
+    let blanks = length - words.len();
+    let some = random.below(blanks);
+    let before = random.one(&[0, some, blanks]);
+    let blank = random.one(&[" ", "\t"]);
+    format!(
+        "{}{words}{}",
+        blank.repeat(before),
+        blank.repeat(blanks - before)
+    )
+}
+
 /// A delimiter line with its end.
 pub fn delimiter(random: &mut Random, word: &str, end: &str) -> String {
+    if random.once_in(8) {
+        let length = random.between(LINE_BYTES - 1, LINE_BYTES);
+        return padded(random, word, length) + end;
+    }
     let before = random.one(&["", "", "", " ", "\t\t"]);
     let after = random.one(&["", "", "", " ", " \t"]);
     format!("{before}{word}{after}{end}")
@@ -141,9 +182,13 @@ pub fn faulty_line(random: &mut Random) -> Vec<u8> {
     }
 }
 
-/// A line of about the limit and more.
+/// A line of about the limit and more, every second time one of a few words among blanks.
 fn long_line(random: &mut Random) -> Vec<u8> {
-    let length = random.one(&[78, 79, 79, 80, 80, 80, 81, 82, 132, 133, 300]);
+    let length = length(random);
+    if random.once_in(2) {
+        let words = random.one(&["\\begindata", "\\begintext", "\\begindata x", "X = 1", ")"]);
+        return padded(random, words, length).into_bytes();
+    }
     let mut line = random
         .one(&["X = 1", "X = ( 1", "", "1 2 3", "\\begindata", "?"])
         .as_bytes()

@@ -138,7 +138,7 @@ fn change(text: &mut Vec<u8>, random: &mut Random) {
         }
         7 => text.truncate(place),
         8 => {
-            let blanks = random.between(40, 80);
+            let blanks = random.one(&[40, 80, 110, 130, 300]);
             text.splice(place..place, vec![random.one(b"  \t,0"); blanks]);
         }
         _ => {
