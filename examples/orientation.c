@@ -29,7 +29,7 @@ static const struct {
 } refusals[] = {
     [GLOBE_LABEL_HELD] = {"LABEL HELD", "remove the text under this label, or use another label"},
     [GLOBE_TEXT_TOO_LONG] = {"TEXT TOO LONG", "split the text: one has at most 65,536 bytes"},
-    [GLOBE_LINE_TOO_LONG] = {"LINE TOO LONG", "break the line: one has at most 79 bytes"},
+    [GLOBE_LINE_TOO_LONG] = {"LINE TOO LONG", "break the line: a data line has at most 132 bytes"},
     [GLOBE_BAD_BYTE] = {"BAD BYTE", "retype the line in plain letters, digits, signs and blanks"},
     [GLOBE_SYNTAX] = {"SYNTAX", "write NAME = NUMBER or NAME = ( NUMBERS ), or += in place of ="},
     [GLOBE_NUMBER] = {"NUMBER", "shorten the number: it has too many digits or too large a power"},

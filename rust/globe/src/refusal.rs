@@ -19,7 +19,7 @@ pub enum Refusal {
     LabelHeld,
     /// 2: the text is too long.
     TextTooLong,
-    /// 3: a line is too long.
+    /// 3: a data or delimiter line is too long.
     LineTooLong,
     /// 4: a data line has a byte that may not stand there.
     BadByte,
@@ -120,8 +120,8 @@ impl Refusal {
                  its comments"
             }
             Refusal::LineTooLong => {
-                "the line is longer than 79 bytes; break it, a list between two of its numbers \
-                 and a comment between two words"
+                "the line is in a data section, or opens a section, and is longer than 132 bytes; \
+                 break it, a list between two of its numbers, or take out blanks"
             }
             Refusal::BadByte => {
                 "the line is in a data section and has a character that is neither a plain \

@@ -21,7 +21,7 @@ fn refused(pool: &mut Pool, label: u32, text: &str) -> Refused {
 fn of_loads() {
     let mut pool = Pool::new();
     pool.load(1, "").unwrap();
-    let long = "x".repeat(80);
+    let long = format!("{}\\begindata", " ".repeat(123));
     assert_eq!(refused(&mut pool, 1, ""), at(Refusal::LabelHeld, 0));
     let over = "\n".repeat(65_537);
     assert_eq!(refused(&mut pool, 2, &over), at(Refusal::TextTooLong, 0));
