@@ -57,7 +57,7 @@ enum globe_number {
     GLOBE_OK = 0,            /* not refused */
     GLOBE_LABEL_HELD = 1,    /* the label is held already */
     GLOBE_TEXT_TOO_LONG = 2, /* the text has over 65,536 bytes */
-    GLOBE_LINE_TOO_LONG = 3, /* the line has over 79 bytes, its end not counted */
+    GLOBE_LINE_TOO_LONG = 3, /* a data or delimiter line has over 132 bytes, its end not counted */
     GLOBE_BAD_BYTE = 4,      /* the data line has a byte that is neither 32 to 126 nor a tab */
     GLOBE_SYNTAX = 5,        /* the data line is no statement, or breaks one */
     GLOBE_NUMBER = 6,        /* too many digits, or a power of ten beyond 22 or -22, also of 0 */
