@@ -17,16 +17,16 @@ use Rattle.listing.proofs.Listed.{listing-fits}
 
 -- ---- bytes that came
 
-module _ (input : Input) (count : ℕ) (room : List ℕ) (e : input ≡ Bytes count) where
-  -- they stand in the room
-  pub brought : Within input room → count ≤ length room
-  brought w = subst (λ (i : Input). Within i room) e w
+-- they stand in the room
+pub brought : (input : Input) (count : ℕ) (room : List ℕ) → input ≡ Bytes count → Within input room → count ≤ length room
+brought input count room e w = subst (λ (i : Input). Within i room) e w
 
-  -- and their listing is printed
-  pub prints-listing : {out after : List ℕ} {r : ℕ} → Lists (take count room) out r after → Writes 0 (printed room input) out r after
-  unfolding printed
-  prints-listing l =
-      writes-same (ap (printed room) (sym e)) (record { next = l .size ∙ sym (zero-add (length (listing (take count room)))); output = l .output })
+-- and their listing is printed
+pub prints-listing : (input : Input) (count : ℕ) (room : List ℕ) → input ≡ Bytes count → {text out after : List ℕ} {r : ℕ}
+    → text ≡ take count room → Lists text out r after → Writes 0 (printed room input) out r after
+unfolding printed
+prints-listing input count room e {text} t l =
+    writes-same (ap listing t ∙ ap (printed room) (sym e)) (record { next = l .size ∙ sym (zero-add (length (listing text))); output = l .output })
 
 -- ---- a read that failed
 

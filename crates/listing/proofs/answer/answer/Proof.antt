@@ -1,18 +1,14 @@
 -- `answer` meets its contract: what came of reading decides whether a listing is printed. Assumes nothing.
-use mathlib.Core.Path.{sym}
 use borrow.Author.Needs.{needs}
-use lib.Seq.{length-take-le}
-use Rattle.listing.proofs.Reading.{brought, prints-listing, prints-unreadable}
+use Rattle.listing.proofs.Reading.{prints-listing, prints-unreadable}
 use Rattle.listing.proofs.answer.answer.Statement.{statement}
 use Rattle.listing.proofs.answer.answer.Tie as tie
 
 enum-known-input : tie.Need-enum-known-input
 enum-known-input c = search needs
 
-slice-aggregate-list : tie.Need-slice-aggregate-list
-slice-aggregate-list c =
-    let s = c .before .before .before .before .before in
-    sym (length-take-le _ _ (brought _ _ _ (c .before .before .input .given .1) (s .pre)))
+front-requires : tie.Need-front-requires
+front-requires c κs = search needs
 
 list-requires : tie.Need-list-requires
 list-requires c κs = search needs
@@ -27,7 +23,7 @@ append-requires : tie.Need-append-requires
 append-requires c κs = search needs
 
 returns : tie.Need-returns
-returns c = prints-listing _ _ _ (c .before .before .before .before .input .given .1) (c .list .ensures)
+returns c = prints-listing _ _ _ (c .before .before .before .before .input .given .1) (c .before .before .front .ensures) (c .list .ensures)
 
 returns-2 : tie.Need-returns-2
 returns-2 c = prints-unreadable _ _ (c .before .before .before .enum-told .given .1) (c .append .ensures)
@@ -37,7 +33,7 @@ answer-spec =
     tie.close
     (tie.spec
     enum-known-input
-    slice-aggregate-list
+    front-requires
     list-requires
     enum-told
     slice-aggregate-append
