@@ -7,14 +7,15 @@ use mathlib.Core.Logic.{_⊎_, inl, inr, _↔_}
 use mathlib.Core.Path.{_≡_, refl, sym, ap, _∙_}
 use mathlib.Core.List.{List, [], _∷_, _++_, append-nil}
 use lib.ListN.{length, length-append}
+use Rattle.value.specs.declared.faults.Fault.{Fault}
+use Rattle.value.specs.declared.faults.Fault.the-variants as F
+use Rattle.statement.specs.Statements.{Event}
+use Rattle.statement.specs.declared.values.Reader.{Reader}
+use Rattle.statement.specs.declared.values.Reader.the-variants as R
+use Rattle.statement.specs.declared.values.Kind.{Kind}
 use Rattle.text.specs.Lines.{lines}
 use Rattle.text.specs.Line.{Outcome, next, fault, answered}
-use Rattle.text.specs.Statements.{Event}
 use Rattle.text.specs.Text.{fine, refused, finished, preceded, readFrom, readText}
-use Rattle.text.specs.declared.faults.Fault.{Fault}
-use Rattle.text.specs.declared.faults.Fault.the-variants as F
-use Rattle.text.specs.declared.line.Reader.{Reader}
-use Rattle.text.specs.declared.line.Reader.the-variants as R
 use Rattle.text.proofs.Passing.{Passed, passed, stopped, after, passedBy, passing, lastLong, readOn, read-append, read-passed}
 
 -- the lines before one line are read without fault, and that line is faulty to the reader that they leave
@@ -34,7 +35,8 @@ pub record LeftOpen (ls : List (List ℕ)) (q : Fault) (number place : ℕ) : Ty
   pub reader : Reader
   pub added : List Event
   pub passes : passing R.Text 0 ls ≡ passed reader added
-  pub inside : (reader ≡ R.Open) ⊎ (reader ≡ R.Filled)
+  pub kind : Kind
+  pub inside : reader ≡ R.List kind
   pub fault-is : q ≡ F.OpenList
   pub number-is : number ≡ length ls
   pub place-is : place ≡ lastLong 0 ls
@@ -114,33 +116,29 @@ first-faulty ls q n k e =
 -- ---- the end of all lines
 
 refused-open : (r : Reader) (es : List Event) (n k : ℕ) (q : Fault) (number place : ℕ) → preceded es (finished r n k) ≡ refused q number place
-    → ((r ≡ R.Open) ⊎ (r ≡ R.Filled)) × (q ≡ F.OpenList) × (number ≡ n) × (place ≡ k)
+    → ((d : Kind) × (r ≡ R.List d)) × (q ≡ F.OpenList) × (number ≡ n) × (place ≡ k)
 refused-open R.Text es n k q number place e = let z : _≡_ {A = ℕ} 0 1 = cc in absurd (omega arith)
 refused-open R.Data es n k q number place e = let z : _≡_ {A = ℕ} 0 1 = cc in absurd (omega arith)
-refused-open R.Open es n k q number place e = (inl refl, cc, cc, cc)
-refused-open R.Filled es n k q number place e = (inr refl, cc, cc, cc)
+refused-open (R.List d) es n k q number place e = ((d, refl), cc, cc, cc)
 
-open-refused : (r : Reader) (es : List Event) (n k : ℕ) → (r ≡ R.Open) ⊎ (r ≡ R.Filled) → preceded es (finished r n k) ≡ refused F.OpenList n k
-open-refused r es n k (inl e) = rw e
-open-refused r es n k (inr e) = rw e
+open-refused : (r : Reader) (es : List Event) (n k : ℕ) (d : Kind) → r ≡ R.List d → preceded es (finished r n k) ≡ refused F.OpenList n k
+open-refused r es n k d e = rw e
 
 fine-outside : (r : Reader) (fs : List Event) (n k : ℕ) (es : List Event) → preceded fs (finished r n k) ≡ fine es
     → ((r ≡ R.Text) ⊎ (r ≡ R.Data)) × (fs ≡ es)
 fine-outside R.Text fs n k es e = (inl refl, sym (append-nil fs) ∙ cc)
 fine-outside R.Data fs n k es e = (inr refl, sym (append-nil fs) ∙ cc)
-fine-outside R.Open fs n k es e = let z : _≡_ {A = ℕ} 0 1 = cc in absurd (omega arith)
-fine-outside R.Filled fs n k es e = let z : _≡_ {A = ℕ} 0 1 = cc in absurd (omega arith)
+fine-outside (R.List d) fs n k es e = let z : _≡_ {A = ℕ} 0 1 = cc in absurd (omega arith)
 
 outside-fine : (r : Reader) (es : List Event) (n k : ℕ) → (r ≡ R.Text) ⊎ (r ≡ R.Data) → preceded es (finished r n k) ≡ fine es
 outside-fine r es n k (inl e) = rw (e, append-nil es)
 outside-fine r es n k (inr e) = rw (e, append-nil es)
 
 -- a list is open after some line only
-some-lines : (ls : List (List ℕ)) (r : Reader) (es : List Event) → passing R.Text 0 ls ≡ passed r es → (r ≡ R.Open) ⊎ (r ≡ R.Filled) → 1 ≤ length ls
+some-lines : (ls : List (List ℕ)) (r : Reader) (es : List Event) (d : Kind) → passing R.Text 0 ls ≡ passed r es → r ≡ R.List d → 1 ≤ length ls
 unfolding passing
-some-lines [] r es e (inl x) = let z : _≡_ {A = ℕ} 0 1 = cc in absurd (omega arith)
-some-lines [] r es e (inr x) = let z : _≡_ {A = ℕ} 0 1 = cc in absurd (omega arith)
-some-lines (l ∷ ls) r es e x = omega arith
+some-lines [] r es d e x = let z : _≡_ {A = ℕ} 0 1 = cc in absurd (omega arith)
+some-lines (l ∷ ls) r es d e x = omega arith
 
 -- ---- a text
 
@@ -159,7 +157,7 @@ module _ (text : List ℕ) (q : Fault) (number place : ℕ) where
           → FirstFaulty ls q number place ⊎ LeftOpen ls q number place
       by (passed r es) a x =
           let t = refused-open r es (length ls) (lastLong 0 ls) q number place x in
-          inr (record { reader = r; added = es; passes = a; inside = t .0; fault-is = t .1; number-is = t .2; place-is = t .3 })
+          inr (record { reader = r; added = es; passes = a; kind = t .0 .0; inside = t .0 .1; fault-is = t .1; number-is = t .2; place-is = t .3 })
       by (stopped w n k) a x = inl (first-faulty ls q number place (a ∙ cc))
 
   faulty-refused : FirstFaulty (lines text) q number place → readText text ≡ refused q number place
@@ -169,7 +167,7 @@ module _ (text : List ℕ) (q : Fault) (number place : ℕ) where
 
   open-left-refused : LeftOpen (lines text) q number place → readText text ≡ refused q number place
   open-left-refused f =
-      rw (read-whole text, f .passes, f .fault-is, f .number-is, f .place-is) (open-refused (f .reader) (f .added) (length (lines text)) (lastLong 0 (lines text)) (f .inside))
+      rw (read-whole text, f .passes, f .fault-is, f .number-is, f .place-is) (open-refused (f .reader) (f .added) (length (lines text)) (lastLong 0 (lines text)) (f .kind) (f .inside))
 
   -- a text is refused just where one line is the first faulty one, or a list is left open
   pub refused-exactly : (readText text ≡ refused q number place) ↔ (FirstFaulty (lines text) q number place ⊎ LeftOpen (lines text) q number place)
@@ -185,7 +183,7 @@ module _ (text : List ℕ) (q : Fault) (number place : ℕ) where
     where
       by : FirstFaulty (lines text) q number place ⊎ LeftOpen (lines text) q number place → (1 ≤ number) × (number ≤ length (lines text))
       by (inl f) = (omega (arith, f .number-is), omega (arith, f .number-is, ap length (f .split), length-append (f .earlier) (f .line ∷ f .later)))
-      by (inr f) = (omega (arith, f .number-is, some-lines (lines text) (f .reader) (f .added) (f .passes) (f .inside)), omega (arith, f .number-is))
+      by (inr f) = (omega (arith, f .number-is, some-lines (lines text) (f .reader) (f .added) (f .kind) (f .passes) (f .inside)), omega (arith, f .number-is))
 
 -- a text is admitted just where all its lines are read without fault and no list is left open
 pub admitted-exactly : (text : List ℕ) (es : List Event) → (readText text ≡ fine es) ↔ AllRead (lines text) es

@@ -1,21 +1,13 @@
 -- Laws that several proofs use, and the theorems about the definitions.
 -- the code
-pub mod Masks
 pub mod Words
-pub mod Standing
-pub mod Items
-pub mod Lists
-pub mod Events
+pub mod Counting
 pub mod LineEnds
 pub mod Answers
 pub mod Bounds
 pub mod Tallies
 -- the definitions
-pub mod Enough
 pub mod Passing
 pub mod FirstFault
-pub mod Names
-pub mod Numbers
-pub mod Readings
 pub mod Legal
 pub mod Counts

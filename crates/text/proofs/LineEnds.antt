@@ -15,7 +15,7 @@ use Rattle.plain.specs.Choice.{if_then_else_}
 use Rattle.plain.specs.Runs.{run, skip, past}
 use Rattle.plain.proofs.Places.{past-after, past-within, take-past}
 use Rattle.plain.proofs.Runs.{drop-past}
-use Rattle.text.specs.Classes.{lineByte}
+use Rattle.value.specs.Classes.{lineByte}
 use Rattle.text.specs.Lines.{before, atLF, lines, Cuts}
 
 -- ---- lists

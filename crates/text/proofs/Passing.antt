@@ -7,13 +7,13 @@ use mathlib.Core.Path.{_≡_, refl, sym, ap, _∙_}
 use mathlib.Core.List.{List, [], _∷_, _++_, append-assoc, append-nil}
 use lib.ListN.{length}
 use Rattle.plain.specs.Bytes.{LF}
+use Rattle.value.specs.declared.faults.Fault.{Fault}
+use Rattle.statement.specs.Statements.{Event}
+use Rattle.statement.specs.declared.values.Reader.{Reader}
+use Rattle.statement.specs.declared.values.Reader.the-variants as R
 use Rattle.text.specs.Lines.{lines}
 use Rattle.text.specs.Line.{Outcome, next, fault, answered}
-use Rattle.text.specs.Statements.{Event}
-use Rattle.text.specs.Text.{Read, fine, refused, finished, preceded, then, readFrom, readText}
-use Rattle.text.specs.declared.faults.Fault.{Fault}
-use Rattle.text.specs.declared.line.Reader.{Reader}
-use Rattle.text.specs.declared.line.Reader.the-variants as R
+use Rattle.text.specs.Text.{Read, fine, refused, finished, preceded, continued, readFrom, readText}
 use Rattle.text.proofs.LineEnds.{lines-join}
 
 -- some lines read without fault: the reader that they leave, and all that they add; or the first fault
@@ -71,7 +71,7 @@ read-append r number long (l ∷ ls) ms = by (answered r l) (λ s. read-append s
   where
     by : (o : Outcome)
         → ((s : Reader) → readFrom s (number + 1) (length l) (ls ++ ms) ≡ readOn (passing s (number + 1) ls) (λ s. readFrom s (number + 1 + length ls) (lastLong (length l) ls) ms))
-        → then o (number + 1) (λ s. readFrom s (number + 1) (length l) (ls ++ ms))
+        → continued o (number + 1) (λ s. readFrom s (number + 1) (length l) (ls ++ ms))
         ≡ readOn (passedBy o (number + 1) (λ s. passing s (number + 1) ls)) (λ s. readFrom s (number + length (l ∷ ls)) (lastLong (length l) ls) ms)
     by (next s es) f =
         let z : number + length (l ∷ ls) ≡ number + 1 + length ls = omega arith in

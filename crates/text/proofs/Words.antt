@@ -11,7 +11,7 @@ use lib.Seq.{drop-cons}
 use Rattle.plain.specs.Runs.{past, none}
 use Rattle.plain.proofs.Runs.{drop-past}
 use Rattle.plain.proofs.Places.{none-drop}
-use Rattle.text.specs.Classes.{blank}
+use Rattle.value.specs.Classes.{blank}
 use Rattle.text.specs.Delimiters.{word, exactly}
 
 module _ (w line : List ℕ) (j i : ℕ) (g : j < length w) where

@@ -4,19 +4,18 @@ use Prim.Native.Nat.{ℕ}
 use mathlib.Core.Bool.{Bool, false, _&&_}
 use mathlib.Core.List.{List, [], _∷_}
 use lib.Dec.{eqb}
+use Rattle.plain.specs.Ascii.{ascii}
 use Rattle.plain.specs.Choice.{if_then_else_}
 use Rattle.plain.specs.Runs.{skip, none}
-use Rattle.text.specs.Classes.{blank}
+use Rattle.value.specs.Classes.{blank}
 use Rattle.text.specs.declared.delimiters.Mark.{Mark}
 use Rattle.text.specs.declared.delimiters.Mark.the-variants as M
 
--- \begindata
 abbrev pub BEGINDATA : List ℕ
-BEGINDATA = 92 ∷ 98 ∷ 101 ∷ 103 ∷ 105 ∷ 110 ∷ 100 ∷ 97 ∷ 116 ∷ 97 ∷ []
+BEGINDATA = ascii "\\begindata"
 
--- \begintext
 abbrev pub BEGINTEXT : List ℕ
-BEGINTEXT = 92 ∷ 98 ∷ 101 ∷ 103 ∷ 105 ∷ 110 ∷ 116 ∷ 101 ∷ 120 ∷ 116 ∷ []
+BEGINTEXT = ascii "\\begintext"
 
 -- the bytes are the word, and then blanks only
 abbrev pub word : List ℕ → List ℕ → Bool

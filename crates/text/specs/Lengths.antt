@@ -3,24 +3,23 @@
 use Prim.Native.Nat.{ℕ}
 use mathlib.Core.Bool.{Bool, true, false, _&&_}
 use lib.Dec.{ltb}
+use Rattle.statement.specs.declared.values.Reader.{Reader}
+use Rattle.statement.specs.declared.values.Reader.the-variants as R
 use Rattle.text.specs.declared.delimiters.Mark.{Mark}
 use Rattle.text.specs.declared.delimiters.Mark.the-variants as M
-use Rattle.text.specs.declared.line.Reader.{Reader}
-use Rattle.text.specs.declared.line.Reader.the-variants as R
 
 -- the longest data line
 abbrev pub LONGEST-LINE : ℕ
 LONGEST-LINE = 132
 
 -- a line of this mark, met by this reader, is a data or delimiter line
-abbrev pub limited : Mark → Reader → Bool
-limited M.Data r = true
-limited M.Text r = true
-limited M.Plain R.Text = false
-limited M.Plain R.Data = true
-limited M.Plain R.Open = true
-limited M.Plain R.Filled = true
+abbrev pub countsAsData : Mark → Reader → Bool
+countsAsData M.Data r = true
+countsAsData M.Text r = true
+countsAsData M.Plain R.Text = false
+countsAsData M.Plain R.Data = true
+countsAsData M.Plain (R.List k) = true
 
 -- "a data or delimiter line over 132"
 abbrev pub tooLong : Mark → Reader → (long : ℕ) → Bool
-tooLong m r long = ltb LONGEST-LINE long && limited m r
+tooLong m r long = ltb LONGEST-LINE long && countsAsData m r

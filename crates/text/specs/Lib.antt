@@ -1,11 +1,6 @@
--- Document 01, "Text rules", in its order, with document 02's lengths of lines.
+-- Document 01, "Text rules": lines, sections and the whole text, with document 02's lengths of lines. What a data line says is in statement.
 pub mod Lines
-pub mod Classes
-pub mod Masks
 pub mod Delimiters
 pub mod Lengths
-pub mod Faults
-pub mod Values
-pub mod Statements
 pub mod Line
 pub mod Text

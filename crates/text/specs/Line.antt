@@ -1,28 +1,28 @@
 -- The answer to one line: what it adds and how the reader stands after it, or its first fault. Definitions only.
 use Prim.Native.Nat.{ℕ, _-_}
-use mathlib.Core.Bool.{true, false}
 use mathlib.Core.List.{List, [], _∷_, _++_, map}
 use lib.Dec.{ltb}
 use lib.ListN.{length, take, drop}
 use Rattle.plain.specs.Choice.{if_then_else_}
+use Rattle.plain.specs.Bytes.{fair}
 use Rattle.plain.specs.Runs.{past}
-use Rattle.text.specs.Classes.{fair}
+use Rattle.value.specs.declared.faults.Fault.{Fault}
+use Rattle.value.specs.declared.faults.Fault.the-variants as F
+use Rattle.statement.specs.Values.{Given, given, wrong, listed, givenAt}
+use Rattle.statement.specs.Statements.{Event, opened, value, openings, givings, bytesGiven}
+use Rattle.statement.specs.Head.{head}
+use Rattle.statement.specs.declared.head.Head.{Head}
+use Rattle.statement.specs.declared.head.Head.the-variants as H
+use Rattle.statement.specs.declared.values.Reader.{Reader}
+use Rattle.statement.specs.declared.values.Reader.the-variants as R
+use Rattle.statement.specs.declared.values.Taken.{Taken}
+use Rattle.statement.specs.declared.values.Taken.the-variants as T
 use Rattle.text.specs.Delimiters.{markOf}
 use Rattle.text.specs.Lengths.{LONGEST-LINE, tooLong}
-use Rattle.text.specs.Values.{Given, given, wrong, listed, givenAt}
-use Rattle.text.specs.Statements.{Event, opened, value, head, openings, givings}
 use Rattle.text.specs.declared.line.Answer.{Answer}
 use Rattle.text.specs.declared.line.Answer.the-variants as A
-use Rattle.text.specs.declared.faults.Fault.{Fault}
-use Rattle.text.specs.declared.faults.Fault.the-variants as F
-use Rattle.text.specs.declared.statements.Head.{Head}
-use Rattle.text.specs.declared.statements.Head.the-variants as H
 use Rattle.text.specs.declared.delimiters.Mark.{Mark}
 use Rattle.text.specs.declared.delimiters.Mark.the-variants as M
-use Rattle.text.specs.declared.line.Reader.{Reader}
-use Rattle.text.specs.declared.line.Reader.the-variants as R
-use Rattle.text.specs.declared.values.Taken.{Taken}
-use Rattle.text.specs.declared.values.Taken.the-variants as T
 
 pub data Outcome : Type 0 where
   next : Reader → List Event → Outcome
@@ -30,7 +30,7 @@ pub data Outcome : Type 0 where
 
 -- values after some first events
 abbrev pub adding : List Event → Given → Outcome
-adding es (given r xs) = next r (es ++ map value xs)
+adding es (given r vs) = next r (es ++ map value vs)
 adding es (wrong q k) = fault q k
 
 -- ---- a data line
@@ -51,15 +51,13 @@ fairly line o = if ltb (past fair line 0) (length line) then fault F.BadByte (pa
 abbrev pub section : Reader → Reader → Outcome
 section R.Text r = next r []
 section R.Data r = next r []
-section R.Open r = fault F.OpenList 0
-section R.Filled r = fault F.OpenList 0
+section (R.List k) r = fault F.OpenList 0
 
 -- a line that is no delimiter: "Text-section lines are skipped, their bytes unread"
 abbrev pub plain : Reader → List ℕ → Outcome
 plain R.Text line = next R.Text []
 plain R.Data line = fairly line (stated line (head line))
-plain R.Open line = fairly line (adding [] (listed false line 0))
-plain R.Filled line = fairly line (adding [] (listed true line 0))
+plain (R.List k) line = fairly line (adding [] (listed k line 0))
 
 abbrev pub marked : Mark → Reader → List ℕ → Outcome
 marked M.Data r line = section r R.Data
@@ -70,13 +68,13 @@ marked M.Plain r line = plain r line
 unfoldable pub answered : Reader → List ℕ → Outcome
 answered r line = if tooLong (markOf line) r (length line) then fault F.TooLong LONGEST-LINE else marked (markOf line) r line
 
--- ---- the answer as the code gives it: how many statements are opened and how many values given
+-- ---- the answer as the code gives it: how many statements are opened, how many values given, and how many bytes in strings
 
 abbrev pub counted : Outcome → Answer
-counted (next r es) = A.Next r (openings es) (givings es)
+counted (next r es) = A.Next r (openings es) (givings es) (bytesGiven es)
 counted (fault q k) = A.Fault q k
 
 -- of a line that opens so many statements and then takes values
 abbrev pub answerOf : (opened : ℕ) → Taken → Answer
-answerOf n (T.Values r k) = A.Next r n k
+answerOf n (T.Values r k b) = A.Next r n k b
 answerOf n (T.Fault q k) = A.Fault q k

@@ -1,6 +1,6 @@
 // Delimiter lines: document 01, "a line that, without outer blanks, is exactly `\begindata` or `\begintext`".
-use crate::classes;
-use crate::classes::Class;
+use value::classes;
+use value::classes::Class;
 ghost use mathlib.Core.Path.{_≡_};
 ghost use lib.ListN.{drop};
 ghost use Rattle.text.specs.Delimiters.{word, markOf};

@@ -1,23 +1,19 @@
 // A text read line by line, up to its first faulty line: document 01, "Text rules".
-pub mod classes;
 pub mod delimiters;
-pub mod faults;
 pub mod lengths;
 pub mod line;
 pub mod lines;
-pub mod statements;
-pub mod values;
 
-use crate::faults::Fault;
 use crate::line::Answer;
-use crate::line::Reader;
+use statement::values::Reader;
+use value::faults::Fault;
 ghost use mathlib.Core.Path.{_≡_};
 ghost use Prim.Native.Nat.{ℕ};
 ghost use Rattle.text.specs.Text.{readText, tallied};
 
-// How many statements and values a text has, or its first fault, the fault's line and its place there.
+// How many statements and values a text has and how many bytes in strings, or its first fault, the fault's line and its place there.
 pub enum Checked {
-    Admitted(usize, usize),
+    Admitted(usize, usize, usize),
     Refused(Fault, usize, usize),
 }
 
@@ -31,11 +27,12 @@ pub fn check(text: &[u8]) -> Checked
     let mut long = 0;
     let mut statements = 0;
     let mut values = 0;
+    let mut bytes = 0;
     while at < text.len() {
         let cut = lines::cut_line(text, at);
         let end = cut.end;
         let answer = line::line_step(reader, &text[at..end]);
-        let Answer::Next(next, opened, given) = answer else {
+        let Answer::Next(next, opened, given, in_strings) = answer else {
             return refused(answer, number + 1);
         };
         reader = next;
@@ -44,12 +41,12 @@ pub fn check(text: &[u8]) -> Checked
         number += 1;
         statements += opened;
         values += given;
+        bytes += in_strings;
     }
     match reader {
-        Reader::Text => Checked::Admitted(statements, values),
-        Reader::Data => Checked::Admitted(statements, values),
-        Reader::Open => Checked::Refused(Fault::OpenList, number, long),
-        Reader::Filled => Checked::Refused(Fault::OpenList, number, long),
+        Reader::Text => Checked::Admitted(statements, values, bytes),
+        Reader::Data => Checked::Admitted(statements, values, bytes),
+        Reader::List(_) => Checked::Refused(Fault::OpenList, number, long),
     }
 }
 
@@ -58,7 +55,7 @@ fn refused(answer: Answer, number: usize) -> Checked
     ensures { λ r. ⌜ ((q : Fault) (k : ℕ) → answer ≡ Answer.Fault q k → r ≡ Checked.Refused q number k) ⌝ }
 {
     match answer {
-        Answer::Next(_, opened, given) => Checked::Admitted(opened, given),
+        Answer::Next(_, opened, given, bytes) => Checked::Admitted(opened, given, bytes),
         Answer::Fault(fault, place) => Checked::Refused(fault, number, place),
     }
 }

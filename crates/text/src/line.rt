@@ -1,31 +1,26 @@
 // The answer to one line: document 01, "in it 3, then 4, then whichever of 5 and 6 starts at the earlier byte".
-use crate::classes;
-use crate::classes::Class;
 use crate::delimiters;
 use crate::delimiters::Mark;
-use crate::faults::Fault;
 use crate::lengths;
 use crate::lengths::LONGEST_LINE;
-use crate::statements;
-use crate::statements::Head;
-use crate::values;
-use crate::values::Taken;
+use statement::head;
+use statement::head::Head;
+use statement::values;
+use statement::values::Kind;
+use statement::values::Reader;
+use statement::values::Taken;
+use value::classes;
+use value::classes::Class;
+use value::faults::Fault;
 ghost use mathlib.Core.Path.{_≡_};
 ghost use mathlib.Core.List.{[]};
-ghost use Rattle.text.specs.Values.{listed};
+ghost use Rattle.statement.specs.Values.{listed};
 ghost use Rattle.text.specs.Line.{answered, counted, marked, section, plain, fairly, adding, answerOf};
 
-// How the reader stands between two lines: in a text section, in a data section, or there in a list without or with numbers so far.
-pub enum Reader {
-    Text,
-    Data,
-    Open,
-    Filled,
-}
-
-// The reader after a line, and how many statements the line opens and values it gives; or its first fault.
+// The reader after a line, how many statements the line opens, how many values it gives and how many bytes their strings have; or its
+// first fault.
 pub enum Answer {
-    Next(Reader, usize, usize),
+    Next(Reader, usize, usize, usize),
     Fault(Fault, usize),
 }
 
@@ -56,10 +51,9 @@ fn open_section(reader: Reader, opened: Reader) -> Answer
     ensures { λ r. ⌜ r ≡ counted (section reader opened) ⌝ }
 {
     match reader {
-        Reader::Text => Answer::Next(opened, 0, 0),
-        Reader::Data => Answer::Next(opened, 0, 0),
-        Reader::Open => Answer::Fault(Fault::OpenList, 0),
-        Reader::Filled => Answer::Fault(Fault::OpenList, 0),
+        Reader::Text => Answer::Next(opened, 0, 0, 0),
+        Reader::Data => Answer::Next(opened, 0, 0, 0),
+        Reader::List(_) => Answer::Fault(Fault::OpenList, 0),
     }
 }
 
@@ -68,10 +62,9 @@ fn plain(reader: Reader, line: &[u8]) -> Answer
     ensures { λ r. ⌜ r ≡ counted (plain reader (now (line .entry))) ⌝ }
 {
     match reader {
-        Reader::Text => Answer::Next(Reader::Text, 0, 0),
+        Reader::Text => Answer::Next(Reader::Text, 0, 0, 0),
         Reader::Data => statement(line),
-        Reader::Open => list_on(false, line),
-        Reader::Filled => list_on(true, line),
+        Reader::List(kind) => list_on(kind, line),
     }
 }
 
@@ -83,23 +76,23 @@ fn statement(line: &[u8]) -> Answer
     if k < line.len() {
         return Answer::Fault(Fault::BadByte, k);
     }
-    let head = statements::read_head(line);
+    let head = head::read_head(line);
     match head {
-        Head::Blank => Answer::Next(Reader::Data, 0, 0),
+        Head::Blank => Answer::Next(Reader::Data, 0, 0, 0),
         Head::Named(_, _, _, at) => answer_of(1, values::value(line, at)),
         Head::Fault(fault, place) => Answer::Fault(fault, place),
     }
 }
 
 // A line of a data section inside a list.
-fn list_on(filled: bool, line: &[u8]) -> Answer
-    ensures { λ r. ⌜ r ≡ counted (fairly (now (line .entry)) (adding [] (listed filled (now (line .entry)) 0))) ⌝ }
+fn list_on(kind: Kind, line: &[u8]) -> Answer
+    ensures { λ r. ⌜ r ≡ counted (fairly (now (line .entry)) (adding [] (listed kind (now (line .entry)) 0))) ⌝ }
 {
     let k = classes::past(Class::Fair, line, 0);
     if k < line.len() {
         return Answer::Fault(Fault::BadByte, k);
     }
-    answer_of(0, values::list(filled, line, 0))
+    answer_of(0, values::list(kind, line, 0))
 }
 
 // The answer of a line that opens so many statements and then takes values.
@@ -107,7 +100,7 @@ fn answer_of(opened: usize, taken: Taken) -> Answer
     ensures { λ r. ⌜ r ≡ answerOf opened taken ⌝ }
 {
     match taken {
-        Taken::Values(reader, given) => Answer::Next(reader, opened, given),
+        Taken::Values(reader, given, bytes) => Answer::Next(reader, opened, given, bytes),
         Taken::Fault(fault, place) => Answer::Fault(fault, place),
     }
 }

@@ -1,6 +1,6 @@
 // Where lines end: document 01, "Lines end at LF; one CR just before it is dropped".
-use crate::classes;
-use crate::classes::Class;
+use value::classes;
+use value::classes::Class;
 ghost use Prim.Native.Nat.{_<_};
 ghost use lib.ListN.{length};
 ghost use Rattle.text.specs.Lines.{Cuts};

@@ -9,10 +9,10 @@ use Rattle.text.proofs.check.Statement.{statement}
 use Rattle.text.proofs.check.Tie as tie
 
 abbrev Inv-loop : tie.InvT-loop
-Inv-loop text reader₀ at₀ number₀ long₀ statements₀ values₀ reader at number long statements values = SoFar text reader at number long statements values
+Inv-loop text reader₀ at₀ number₀ long₀ statements₀ values₀ bytes₀ reader at number long statements values bytes = SoFar text reader at number long statements values bytes
 
 abbrev μ-loop : tie.MeasureT-loop
-μ-loop text reader₀ at₀ number₀ long₀ statements₀ values₀ reader at number long statements values = length text + 1 - at
+μ-loop text reader₀ at₀ number₀ long₀ statements₀ values₀ bytes₀ reader at number long statements values bytes = length text + 1 - at
 
 loop-holds : tie.Need-loop-holds Inv-loop μ-loop
 loop-holds c = at-first _
@@ -49,7 +49,7 @@ refused-requires c κs = search needs
 returns : tie.Need-returns Inv-loop μ-loop
 returns c =
     let a = c .before .before .before .before .before in
-    c .refused .ensures _ _ (c .before .enum-told .given .1) ∙ turn-off _ _ _ (a .cut-line .ensures) _ _ _ _ _ _ (c .before .before .before .line-step .ensures) _ _ (c .before .enum-told .given .1) ∙ a .before .before .loop .inv .left
+    c .refused .ensures _ _ (c .before .enum-told .given .1) ∙ turn-off _ _ _ (a .cut-line .ensures) _ _ _ _ _ _ _ (c .before .before .before .line-step .ensures) _ _ (c .before .enum-told .given .1) ∙ a .before .before .loop .inv .left
 
 sub-long : tie.Need-sub-long Inv-loop μ-loop
 sub-long c = omega (arith, c .before .before .before .before .before .cut-line .ensures .starts)
@@ -60,14 +60,20 @@ add-number c = omega (arith, c .before .before .before .before .before .before .
 add-statements : tie.Need-add-statements Inv-loop μ-loop
 add-statements c =
     let a = c .before .before .before .before .before in
-    let f = turn _ _ _ _ _ _ _ (a .before .before .loop .inv) _ (a .cut-line .ensures) _ (c .before .before .before .line-step .ensures) _ _ _ (c .before .answer .given .1) in
+    let f = turn _ _ _ _ _ _ _ _ (a .before .before .loop .inv) _ (a .cut-line .ensures) _ (c .before .before .before .line-step .ensures) _ _ _ _ (c .before .answer .given .1) in
     omega (arith, f .opens, f .counts, f .stays)
 
 add-values : tie.Need-add-values Inv-loop μ-loop
 add-values c =
     let a = c .before .before .before .before .before in
-    let f = turn _ _ _ _ _ _ _ (a .before .before .loop .inv) _ (a .cut-line .ensures) _ (c .before .before .before .line-step .ensures) _ _ _ (c .before .answer .given .1) in
+    let f = turn _ _ _ _ _ _ _ _ (a .before .before .loop .inv) _ (a .cut-line .ensures) _ (c .before .before .before .line-step .ensures) _ _ _ _ (c .before .answer .given .1) in
     omega (arith, f .gives, f .stays)
+
+add-bytes : tie.Need-add-bytes Inv-loop μ-loop
+add-bytes c =
+    let a = c .before .before .before .before .before in
+    let f = turn _ _ _ _ _ _ _ _ (a .before .before .loop .inv) _ (a .cut-line .ensures) _ (c .before .before .before .line-step .ensures) _ _ _ _ (c .before .answer .given .1) in
+    omega (arith, f .spells, f .stays)
 
 loop-less : tie.Need-loop-less Inv-loop μ-loop
 loop-less c =
@@ -77,7 +83,7 @@ loop-less c =
 loop-again : tie.Need-loop-again Inv-loop μ-loop
 loop-again c =
     let a = c .before .before .before .before .before in
-    turn _ _ _ _ _ _ _ (a .before .before .loop .inv) _ (a .cut-line .ensures) _ (c .before .before .before .line-step .ensures) _ _ _ (c .before .answer .given .1)
+    turn _ _ _ _ _ _ _ _ (a .before .before .loop .inv) _ (a .cut-line .ensures) _ (c .before .before .before .line-step .ensures) _ _ _ _ (c .before .answer .given .1)
 
 enum-told-2 : tie.Need-enum-told-2 Inv-loop μ-loop
 enum-told-2 c = search needs
@@ -88,28 +94,20 @@ enum-told-3 c = search needs
 enum-told-4 : tie.Need-enum-told-4 Inv-loop μ-loop
 enum-told-4 c = search needs
 
-enum-told-5 : tie.Need-enum-told-5 Inv-loop μ-loop
-enum-told-5 c = search needs
-
 returns-2 : tie.Need-returns-2 Inv-loop μ-loop
 returns-2 c =
     let a = c .before .before .before .loop in
-    end-admits _ (a .at) _ (a .number) (a .long) _ _ (c .before .before .loop-test .left) (rw (c .enum-told2 .given .1)) ∙ a .inv .left
+    end-admits _ (a .at) _ (a .number) (a .long) _ _ _ (c .before .before .loop-test .left) (rw (c .enum-told2 .given .1)) ∙ a .inv .left
 
 returns-3 : tie.Need-returns-3 Inv-loop μ-loop
 returns-3 c =
     let a = c .before .before .before .loop in
-    end-admits _ (a .at) _ (a .number) (a .long) _ _ (c .before .before .loop-test .left) (rw (c .enum-told3 .given .1)) ∙ a .inv .left
+    end-admits _ (a .at) _ (a .number) (a .long) _ _ _ (c .before .before .loop-test .left) (rw (c .enum-told3 .given .1)) ∙ a .inv .left
 
 returns-4 : tie.Need-returns-4 Inv-loop μ-loop
 returns-4 c =
     let a = c .before .before .before .loop in
-    end-refuses _ (a .at) _ (a .number) (a .long) _ _ (c .before .before .loop-test .left) (rw (c .enum-told4 .given .1)) ∙ a .inv .left
-
-returns-5 : tie.Need-returns-5 Inv-loop μ-loop
-returns-5 c =
-    let a = c .before .before .before .loop in
-    end-refuses _ (a .at) _ (a .number) (a .long) _ _ (c .before .before .loop-test .left) (rw (c .enum-told5 .given .1)) ∙ a .inv .left
+    end-refuses _ (a .at) _ (a .number) (a .long) _ _ _ (c .before .before .loop-test .left) (rw (c .enum-told4 .given .1)) ∙ a .inv .left
 
 pub check-spec : {M : Type 1} → statement M
 check-spec =
@@ -132,13 +130,12 @@ check-spec =
     add-number
     add-statements
     add-values
+    add-bytes
     loop-less
     loop-again
     enum-told-2
     enum-told-3
     enum-told-4
-    enum-told-5
     returns-2
     returns-3
-    returns-4
-    returns-5)
+    returns-4)

@@ -2,9 +2,9 @@
 use mathlib.Core.Path.{sym, _∙_}
 use Rattle.text.specs.Delimiters.{BEGINDATA, BEGINTEXT, markOf}
 use Rattle.text.proofs.Words.{exactly-at}
-use borrow.Author.Needs.{needs}
 use Rattle.text.proofs.delimiters.read_mark.Statement.{statement}
 use Rattle.text.proofs.delimiters.read_mark.Tie as tie
+use borrow.Author.Needs.{needs}
 
 past-requires : tie.Need-past-requires
 past-requires c κs = search needs

@@ -12,9 +12,6 @@ enum-told-2 c = search needs
 enum-told-3 : tie.Need-enum-told-3
 enum-told-3 c = search needs
 
-enum-told-4 : tie.Need-enum-told-4
-enum-told-4 c = search needs
-
 returns : tie.Need-returns
 returns c = simp (c .enum-told .given .1)
 
@@ -24,10 +21,6 @@ returns-2 c = simp (c .enum-told2 .given .1)
 returns-3 : tie.Need-returns-3
 returns-3 c = simp (c .enum-told3 .given .1)
 
-returns-4 : tie.Need-returns-4
-returns-4 c = simp (c .enum-told4 .given .1)
-
 pub open-section-spec : {M : Type 1} → statement M
 open-section-spec =
-    tie.close
-    (tie.spec enum-told enum-told-2 enum-told-3 enum-told-4 returns returns-2 returns-3 returns-4)
+    tie.close (tie.spec enum-told enum-told-2 enum-told-3 returns returns-2 returns-3)

@@ -3,7 +3,7 @@ use mathlib.Core.Path.{sym, ap, _∙_}
 use borrow.Author.Needs.{needs}
 use borrow.Author.Tests.{lt-ltb, le-ltb}
 use Rattle.text.specs.Line.{answerOf}
-use Rattle.text.proofs.Events.{counted-statement}
+use Rattle.text.proofs.Counting.{counted-statement}
 use Rattle.text.proofs.line.statement.Statement.{statement}
 use Rattle.text.proofs.line.statement.Tie as tie
 

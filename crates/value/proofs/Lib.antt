@@ -1,0 +1,10 @@
+-- Laws that several proofs use, and the theorems about the definitions.
+-- the code
+pub mod Masks
+pub mod Standing
+pub mod Scanning
+-- the definitions
+pub mod Found
+pub mod Readings
+pub mod Quotes
+pub mod Written

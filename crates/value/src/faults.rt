@@ -1,0 +1,32 @@
+// What may be wrong with a line, and the refusal that it is: document 01, "Refusal numbers".
+use refusal::Refusal;
+ghost use mathlib.Core.Path.{_≡_};
+ghost use Rattle.value.specs.Faults.{refusalOf};
+
+// What is wrong, which goes with its place in the line, counted in bytes from 0.
+pub enum Fault {
+    TooLong,
+    BadByte,
+    BadName,
+    NoOperator,
+    BadValue,
+    OpenList,
+    RestOfLine,
+    OutsideClass,
+}
+
+// The refusal that a fault is.
+pub fn refusal_of(fault: Fault) -> Refusal
+    ensures { λ r. ⌜ r ≡ refusalOf fault ⌝ }
+{
+    match fault {
+        Fault::TooLong => Refusal::LineTooLong,
+        Fault::BadByte => Refusal::BadByte,
+        Fault::BadName => Refusal::Syntax,
+        Fault::NoOperator => Refusal::Syntax,
+        Fault::BadValue => Refusal::Syntax,
+        Fault::OpenList => Refusal::Syntax,
+        Fault::RestOfLine => Refusal::Syntax,
+        Fault::OutsideClass => Refusal::Number,
+    }
+}
