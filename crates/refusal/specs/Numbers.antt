@@ -1,4 +1,4 @@
--- "Success is number 0"; the table of "Refusal numbers", a line for each refusal. Definitions only.
+-- "Success is number 0"; the table of "Refusal numbers", a line for each refusal, with document 02's "16 MIXED KIND". Definitions only.
 use Prim.Native.Nat.{ℕ}
 use Rattle.refusal.specs.declared.Refusal.{Refusal}
 use Rattle.refusal.specs.declared.Refusal.the-variants as R
@@ -22,3 +22,4 @@ numberOf R.WrongCount = 12
 numberOf R.NoVariable = 13
 numberOf R.ShortBuffer = 14
 numberOf R.DamagedPool = 15
+numberOf R.MixedKind = 16

@@ -1,4 +1,4 @@
-// The refusals of document 01, "Refusal numbers".
+// The refusals of document 01, "Refusal numbers", and those that document 02 adds.
 ghost use mathlib.Core.Path.{_≡_};
 ghost use Rattle.refusal.specs.Numbers.{numberOf};
 
@@ -19,6 +19,7 @@ pub enum Refusal {
     NoVariable,
     ShortBuffer,
     DamagedPool,
+    MixedKind,
 }
 
 // The number that the table gives a refusal.
@@ -41,5 +42,6 @@ pub fn number(refusal: Refusal) -> u32
         Refusal::NoVariable => 13,
         Refusal::ShortBuffer => 14,
         Refusal::DamagedPool => 15,
+        Refusal::MixedKind => 16,
     }
 }
