@@ -122,6 +122,27 @@ part-over zero [] (y ∷ m) h = refl
 part-over {A} zero (x ∷ xs) (y ∷ m) h = ap (λ (r : List A). x ∷ r) (part-over zero xs m (omega arith))
 part-over (suc at) xs (y ∷ m) h = part-over at xs m (omega arith)
 
+-- ---- a part of a list that was lent comes back
+
+put-front : {A : Type 0} (ys m : List A) → length ys ≤ length m → ys ++ drop (length ys) m ≡ over 0 ys m
+unfolding over
+put-front [] [] h = refl
+put-front [] (y ∷ m) h = refl
+put-front (x ∷ ys) [] h = before-zero h
+put-front {A} (x ∷ ys) (y ∷ m) h = ap (λ (l : List A). x ∷ l) (put-front ys m (omega arith))
+
+put-at : {A : Type 0} (at : ℕ) (ys m : List A) → at + length ys ≤ length m → take at m ++ (ys ++ drop (length ys) (drop at m)) ≡ over at ys m
+unfolding over
+put-at zero ys m h = put-front ys m (omega arith)
+put-at (suc at) ys [] h = let z : suc at ≤ 0 = omega arith in before-zero z
+put-at {A} (suc at) ys (y ∷ m) h = ap (λ (l : List A). y ∷ l) (put-at at ys m (omega arith))
+
+-- as a function that lends `&mut m[a..a + n]` finds it
+pub put-back : {A : Type 0} (a n : ℕ) (ys m : List A) → a + n ≤ length m → length ys ≡ n → take a m ++ (ys ++ drop (a + n - a) (drop a m)) ≡ over a ys m
+put-back {A} a n ys m h l =
+    let e : a + n - a ≡ length ys = omega arith in
+    ap (λ (k : ℕ). take a m ++ (ys ++ drop k (drop a m))) e ∙ put-at a ys m (omega arith)
+
 -- ---- two writings that do not meet
 
 pub over-comm : {A : Type 0} (a : ℕ) (xs : List A) (b : ℕ) (ys m : List A) → a + length xs ≤ b → over b ys (over a xs m) ≡ over a xs (over b ys m)
@@ -132,6 +153,38 @@ over-comm zero (x ∷ xs) zero ys (y ∷ m) h = let z : suc (length xs) ≤ 0 = 
 over-comm {A} zero (x ∷ xs) (suc b) ys (y ∷ m) h = ap (λ (r : List A). x ∷ r) (over-comm zero xs b ys m (omega arith))
 over-comm (suc a) xs zero ys (y ∷ m) h = let z : suc a ≤ 0 = omega arith in before-zero z
 over-comm {A} (suc a) xs (suc b) ys (y ∷ m) h = ap (λ (r : List A). y ∷ r) (over-comm a xs b ys m (omega arith))
+
+-- ---- written over again, behind a list, and within a part
+
+pub over-again : {A : Type 0} (a : ℕ) (xs ys m : List A) → length xs ≡ length ys → over a ys (over a xs m) ≡ over a ys m
+unfolding over
+over-again a xs ys [] e = refl
+over-again zero [] [] (y ∷ m) e = refl
+over-again zero [] (z ∷ ys) (y ∷ m) e = refl
+over-again zero (x ∷ xs) [] (y ∷ m) e = absurd (omega arith)
+over-again {A} zero (x ∷ xs) (z ∷ ys) (y ∷ m) e = ap (λ (l : List A). z ∷ l) (over-again zero xs ys m (omega arith))
+over-again {A} (suc a) xs ys (y ∷ m) e = ap (λ (l : List A). y ∷ l) (over-again a xs ys m e)
+
+pub over-behind : {A : Type 0} (ys xs m : List A) (k : ℕ) → over (length ys + k) xs (ys ++ m) ≡ ys ++ over k xs m
+unfolding over
+over-behind [] xs m k = ap (λ (i : ℕ). over i xs m) (zero-add k)
+over-behind {A} (y ∷ ys) xs m k = ap (λ (i : ℕ). over i xs (y ∷ (ys ++ m))) (suc-add (length ys) k) ∙ ap (λ (l : List A). y ∷ l) (over-behind ys xs m k)
+
+over-front : {A : Type 0} (at n : ℕ) (xs m : List A) → at + length xs ≤ n → over 0 (over at xs (take n m)) m ≡ over at xs m
+unfolding over
+over-front at n xs [] h = refl
+over-front zero zero [] (y ∷ m) h = refl
+over-front zero zero (x ∷ xs) (y ∷ m) h = let z : suc (length xs) ≤ 0 = omega arith in before-zero z
+over-front (suc at) zero xs (y ∷ m) h = let z : suc at ≤ 0 = omega arith in before-zero z
+over-front {A} zero (suc n) [] (y ∷ m) h = ap (λ (l : List A). y ∷ l) (over-same 0 n m)
+over-front {A} zero (suc n) (x ∷ xs) (y ∷ m) h = ap (λ (l : List A). x ∷ l) (over-front zero n xs m (omega arith))
+over-front {A} (suc at) (suc n) xs (y ∷ m) h = ap (λ (l : List A). y ∷ l) (over-front at n xs m (omega arith))
+
+pub over-within : {A : Type 0} (a at n : ℕ) (xs m : List A) → at + length xs ≤ n → over a (over at xs (part a n m)) m ≡ over (a + at) xs m
+unfolding over
+over-within a at n xs [] h = refl
+over-within zero at n xs (y ∷ m) h = over-front at n xs (y ∷ m) h ∙ ap (λ (i : ℕ). over i xs (y ∷ m)) (sym (zero-add at))
+over-within {A} (suc a) at n xs (y ∷ m) h = ap (λ (l : List A). y ∷ l) (over-within a at n xs m h) ∙ ap (λ (i : ℕ). over i xs (y ∷ m)) (sym (suc-add a at))
 
 -- ---- loops that copy, one word a turn
 
