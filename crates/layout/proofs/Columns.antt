@@ -73,7 +73,7 @@ module _ {A : Type 0} where
   abbrev pub laid : Column A → List A → List ℕ
   laid c xs = flat (c .lay) xs
 
-  laid-parts : (c : Column A) (xs gap ys : List A) → laid c (xs ++ (gap ++ ys)) ≡ laid c xs ++ (laid c gap ++ laid c ys)
+  pub laid-parts : (c : Column A) (xs gap ys : List A) → laid c (xs ++ (gap ++ ys)) ≡ laid c xs ++ (laid c gap ++ laid c ys)
   laid-parts c xs gap ys = flat-append (c .lay) xs (gap ++ ys) ∙ ap (λ (l : List ℕ). laid c xs ++ l) (flat-append (c .lay) gap ys)
 
   -- the columns follow each other from place lo on
@@ -112,6 +112,12 @@ module _ {A : Type 0} where
   at-putColumns [] xs m lo o ys p h a = a
   at-putColumns (c ∷ cs) xs m lo o ys p h a =
       at-putColumns cs xs (over (c .base) (laid c xs) m) (c .end) o ys (p .2) (omega (arith, p .0, p .1)) (at-before o ys (c .base) (laid c xs) m (omega (arith, p .0)) a)
+
+  -- so does what follows them all
+  pub part-putColumns : (cs : List (Column A)) (xs : List A) (m : List ℕ) (o n : ℕ) → Within o cs → Room cs xs → part o n (putColumns cs xs m) ≡ part o n m
+  part-putColumns [] xs m o n w r = refl
+  part-putColumns (c ∷ cs) xs m o n w r =
+      part-putColumns cs xs (over (c .base) (laid c xs) m) o n (w .1) (r .1) ∙ part-after o n (c .base) (laid c xs) m (omega (arith, r .0, w .0))
 
   -- what is written before all columns leaves them
   pub stands-over : (cs : List (Column A)) (xs : List A) (m : List ℕ) (lo at : ℕ) (ys : List ℕ) → Spaced lo cs → at + length ys ≤ lo → Stands cs xs m → Stands cs xs (over at ys m)

@@ -5,47 +5,58 @@ use mathlib.Core.List.{List, [], _∷_, map}
 use Prim.Native.Nat.{ℕ, _*_, _≤_, _<_}
 use native.Mathlib.Omega.{arith}
 use lib.Dec.{lit<}
-use lib.ListN.{length, drop, getD, length-map}
+use lib.ListN.{length, take, drop, getD, length-map}
 use lib.Seq.{getD-take}
-use Rattle.text.specs.Statements.{Statement}
+use Rattle.plain.specs.Bytes.{fair}
+use Rattle.statement.specs.Statements.{Statement}
 use Rattle.words.specs.Halves.{upper, lower, sum}
 use Rattle.words.specs.Over.{over, part}
-use Rattle.plain.proofs.Each.{Each, each-take, each-drop}
+use Rattle.plain.proofs.Each.{Each, each-take, each-drop, each-weaken}
 use Rattle.words.proofs.Each.{Words, WORD}
 use Rattle.words.proofs.Halves.{Different}
-use Rattle.words.proofs.Over.{length-over, part-over, each-over}
-use Rattle.layout.specs.State.{Text, Pool, program, flat, valuesOf, values}
-use Rattle.layout.specs.Limits.{WORDS, NAMEWORDS, TEXTS-AT, HEADS-AT, NAMES-AT, VALUES-AT}
-use Rattle.layout.specs.Memory.{textCount, statementCount, valueCount, textWords, headWords, nameWords, valueWords, cutStatements, cutTexts, decode, textWord, headWord, nameOf, totals, put}
-use Rattle.layout.specs.Damage.{Framed, small, sound}
-use Rattle.layout.proofs.Areas.{length-texts, length-heads, length-names, length-values}
-use Rattle.layout.proofs.Sound.{Sound, Named, of-sound}
-use Rattle.layout.proofs.Columns.{At, at-after, Column, Spaced, Within, Room, Stands, putColumns, at-putColumns, length-putColumns, stands-over, put-stands, flat-map}
+use Rattle.words.proofs.Over.{length-over, part-over, part-after}
+use Rattle.octets.specs.Octets.{octets, inkedIn}
+use Rattle.octets.proofs.Bytes.{Bytes, length-octets}
+use Rattle.octets.proofs.Areas.{length-inked-in, octets-area}
+use Rattle.names.specs.Names.{NAMEWORDS}
+use Rattle.layout.specs.State.{Text, Pool, program, flat, wordsOf, valuesOf, bytesOf, values, stringBytes}
+use Rattle.layout.specs.Limits.{WORDS, BYTEWORDS, TEXTS-AT, HEADS-AT, NAMES-AT, VALUES-AT, BYTES-AT}
+use Rattle.layout.specs.Memory.{textCount, statementCount, valueCount, byteCount, textWords, headWords, nameWords, valueWords, heldBytes, cutStatements, cutTexts, decode, textWord, headWord, nameOf, totals, put}
+use Rattle.layout.specs.Damage.{Framed, totalBytes, sound}
+use Rattle.layout.proofs.Areas.{length-part, length-texts, length-heads, length-names, length-values, length-bytes}
+use Rattle.layout.proofs.Bytes.{fair-below}
+use Rattle.layout.proofs.Sound.{Sound, Named, Fitting, of-sound}
+use Rattle.layout.proofs.Columns.{At, at-after, Column, Spaced, Within, Room, Stands, putColumns, at-putColumns, part-putColumns, length-putColumns, stands-over, put-stands, flat-map}
 use Rattle.layout.proofs.Legal.{Fits, Fair, Legal, Bounded}
-use Rattle.layout.proofs.Codec.{Short, ShortText, cut-statements, cut-texts, each-short, each-short-text, sum-texts, sum-heads, length-laid-names, length-cut, heads-cut, values-cut, names-cut, words-cut, program-cut, labels-cut, fair-cut, bounded-cut, bounded-labels, labels-laid, named-laid, operators-laid, counts-laid, small-laid, words-texts, words-heads, words-names, words-values}
+use Rattle.layout.proofs.Codec.{Short, ShortText, cut-statements, cut-texts, each-short, each-short-text, sum-texts, sum-heads, bytes-heads, length-laid-names, length-cut, heads-cut, values-cut, bytes-cut, names-cut, words-cut, program-cut, labels-cut, fair-cut, bounded-cut, bounded-labels, labels-laid, named-laid, operators-laid, counts-laid, fitting-laid, letters-laid}
 
 pub record Holds (m : List ℕ) (s : Pool) : Type 0 where
   pub words : length m ≡ WORDS
   pub textCount= : textCount m ≡ length s
   pub statementCount= : statementCount m ≡ length (program s)
   pub valueCount= : valueCount m ≡ length (values s)
+  pub byteCount= : byteCount m ≡ length (stringBytes s)
   pub texts : textWords m ≡ map textWord s
   pub heads : headWords m ≡ map headWord (program s)
   pub names : nameWords m ≡ flat nameOf (program s)
   pub values : valueWords m ≡ values s
+  pub bytes : heldBytes m ≡ stringBytes s
   pub fits : Fits s
 
 -- ---- a sound memory holds what it decodes to
 
 module _ (m : List ℕ) (S : Sound m) where
   abbrev ss : List Statement
-  ss = cutStatements (headWords m) (nameWords m) (valueWords m)
+  ss = cutStatements (headWords m) (nameWords m) (valueWords m) (heldBytes m)
 
   length-ss : length ss ≡ statementCount m
-  length-ss = length-cut (headWords m) (nameWords m) (valueWords m) ∙ length-heads m (S .sizes)
+  length-ss = length-cut (headWords m) (nameWords m) (valueWords m) (heldBytes m) ∙ length-heads m (S .sizes)
 
   heads= : sum (headWords m) ≡ length (valueWords m)
   heads= = S .values= ∙ sym (length-values m (S .sizes))
+
+  bytes= : totalBytes (headWords m) (valueWords m) ≡ length (heldBytes m)
+  bytes= = S .bytes= ∙ sym (length-bytes m (S .sizes))
 
   -- the statements of a sound memory are those cut out of its areas
   pub program-decode : program (decode m) ≡ ss
@@ -57,15 +68,18 @@ module _ (m : List ℕ) (S : Sound m) where
   texts-decode = words-cut (textWords m) ss (omega (arith, S .statements=, length-ss))
 
   pub heads-decode : map headWord (program (decode m)) ≡ headWords m
-  heads-decode = ap (map headWord) program-decode ∙ heads-cut (headWords m) (nameWords m) (valueWords m) (S .operators) (omega (arith, heads=))
+  heads-decode = ap (map headWord) program-decode ∙ heads-cut (headWords m) (nameWords m) (valueWords m) (heldBytes m) (S .operators) (omega (arith, heads=))
 
   pub values-decode : values (decode m) ≡ valueWords m
-  values-decode = ap (flat valuesOf) program-decode ∙ values-cut (headWords m) (nameWords m) (valueWords m) heads=
+  values-decode = ap (flat valuesOf) program-decode ∙ values-cut (headWords m) (nameWords m) (valueWords m) (heldBytes m) (S .fitting) heads= (omega (arith, bytes=))
+
+  pub bytes-decode : stringBytes (decode m) ≡ heldBytes m
+  bytes-decode = ap (flat bytesOf) program-decode ∙ bytes-cut (headWords m) (nameWords m) (valueWords m) (heldBytes m) (S .fitting) bytes=
 
   pub names-decode : Words m → flat nameOf (program (decode m)) ≡ nameWords m
   names-decode w =
       ap (flat nameOf) program-decode
-      ∙ names-cut (headWords m) (nameWords m) (valueWords m) (length-names m (S .sizes) ∙ sym (ap (λ (k : ℕ). NAMEWORDS * k) (length-heads m (S .sizes))))
+      ∙ names-cut (headWords m) (nameWords m) (valueWords m) (heldBytes m) (length-names m (S .sizes) ∙ sym (ap (λ (k : ℕ). NAMEWORDS * k) (length-heads m (S .sizes))))
       (each-take (λ x. x < WORD) (NAMEWORDS * statementCount m) (drop NAMES-AT m) (each-drop (λ x. x < WORD) NAMES-AT m w)) (S .names)
 
   pub length-decode : length (decode m) ≡ textCount m
@@ -77,18 +91,22 @@ module _ (m : List ℕ) (S : Sound m) where
   pub length-held : length (values (decode m)) ≡ valueCount m
   length-held = ap length values-decode ∙ length-values m (S .sizes)
 
+  pub length-bytes-held : length (stringBytes (decode m)) ≡ byteCount m
+  length-bytes-held = ap length bytes-decode ∙ length-bytes m (S .sizes)
+
   pub decode-fits : Fits (decode m)
   decode-fits = record {
     texts = omega (arith, length-decode, S .sizes .texts);
     statements = omega (arith, length-program, S .sizes .statements);
     values = omega (arith, length-held, S .sizes .values);
+    bytes = omega (arith, length-bytes-held, S .sizes .bytes);
   }
 
   pub decode-legal : Legal (decode m)
   unfolding decode
   decode-legal = record {
     labels = subst Different (sym (labels-cut (textWords m) ss)) (S .labels);
-    statements = subst (Each Fair) (sym program-decode) (fair-cut (headWords m) (nameWords m) (valueWords m) (S .names) (S .counts) (omega (arith, heads=)) (S .values));
+    statements = subst (Each Fair) (sym program-decode) (fair-cut (headWords m) (nameWords m) (valueWords m) (heldBytes m) (S .names) (S .counts) (omega (arith, heads=)) (S .fitting) (S .letters));
   }
 
   pub decode-bounded : Words m → Bounded (decode m)
@@ -97,7 +115,7 @@ module _ (m : List ℕ) (S : Sound m) where
       let p : (o n : ℕ) → Words (part o n m) = λ o n. each-take (λ x. x < WORD) n (drop o m) (each-drop (λ x. x < WORD) o m w) in
       record {
         labels = bounded-labels (textWords m) ss (p TEXTS-AT (textCount m));
-        values = subst (Each (λ x. Words (x .values))) (sym program-decode) (bounded-cut (headWords m) (nameWords m) (valueWords m) (p VALUES-AT (valueCount m)));
+        values = subst (Each (λ x. Words (wordsOf (x .values)))) (sym program-decode) (bounded-cut (headWords m) (nameWords m) (valueWords m) (heldBytes m) (p VALUES-AT (valueCount m)));
       }
 
   pub holds-decode : Words m → Holds m (decode m)
@@ -106,10 +124,12 @@ module _ (m : List ℕ) (S : Sound m) where
     textCount= = sym length-decode;
     statementCount= = sym length-program;
     valueCount= = sym length-held;
+    byteCount= = sym length-bytes-held;
     texts = sym texts-decode;
     heads = sym heads-decode;
     names = sym (names-decode w);
     values = sym values-decode;
+    bytes = sym bytes-decode;
     fits = decode-fits;
   }
 
@@ -125,7 +145,7 @@ module _ (m : List ℕ) (s : Pool) (H : Holds m s) where
   pub decode-holds : Each Fair (program s) → decode m ≡ s
   unfolding decode
   decode-holds f =
-      ap₂ cutTexts (H .texts) ((λ i. cutStatements (H .heads i) (H .names i) (H .values i)) ∙ cut-statements (program s) f short)
+      ap₂ cutTexts (H .texts) ((λ i. cutStatements (H .heads i) (H .names i) (H .values i) (H .bytes i)) ∙ cut-statements (program s) f short)
       ∙ cut-texts s short-texts
 
   pub holds-framed : Framed m
@@ -134,6 +154,7 @@ module _ (m : List ℕ) (s : Pool) (H : Holds m s) where
     texts = omega (arith, H .textCount=, H .fits .texts);
     statements = omega (arith, H .statementCount=, H .fits .statements);
     values = omega (arith, H .valueCount=, H .fits .values);
+    bytes = omega (arith, H .byteCount=, H .fits .bytes);
   }
 
   pub holds-sound : Legal s → Sound m
@@ -141,11 +162,13 @@ module _ (m : List ℕ) (s : Pool) (H : Holds m s) where
     sizes = holds-framed;
     labels = subst (λ (ws : List ℕ). Different (map upper ws)) (sym (H .texts)) (subst Different (sym (labels-laid s short-texts)) (L .labels));
     names = subst (λ (hs : List ℕ). Named hs (nameWords m)) (sym (H .heads)) (subst (Named (map headWord (program s))) (sym (H .names)) (named-laid (program s) (L .statements)));
-    operators = subst (Each (λ h. upper h ≤ 1)) (sym (H .heads)) (operators-laid (program s) short);
+    operators = subst (Each (λ h. upper h ≤ 3)) (sym (H .heads)) (operators-laid (program s) short);
     counts = subst (Each (λ h. 1 ≤ lower h)) (sym (H .heads)) (counts-laid (program s) (L .statements) short);
     values= = ap sum (H .heads) ∙ sum-heads (program s) short ∙ sym (H .valueCount=);
     statements= = ap sum (H .texts) ∙ sum-texts s short-texts ∙ sym (H .statementCount=);
-    values = subst (Each (λ w. small w ≡ true)) (sym (H .values)) (small-laid (program s) (L .statements));
+    fitting = subst (λ (hs : List ℕ). Fitting hs (valueWords m)) (sym (H .heads)) (subst (Fitting (map headWord (program s))) (sym (H .values)) (fitting-laid (program s) (L .statements) short));
+    bytes= = ap₂ totalBytes (H .heads) (H .values) ∙ bytes-heads (program s) (L .statements) short ∙ sym (H .byteCount=);
+    letters = subst (Each (λ b. fair b ≡ true)) (sym (H .bytes)) (letters-laid (program s) (L .statements));
   }
 
 -- ---- the memory's columns
@@ -159,7 +182,7 @@ abbrev pub perStatement : List (Column Statement)
 perStatement =
     record { base = HEADS-AT; end = NAMES-AT; lay = λ x. headWord x ∷ [] }
     ∷ record { base = NAMES-AT; end = VALUES-AT; lay = nameOf }
-    ∷ record { base = VALUES-AT; end = WORDS; lay = valuesOf }
+    ∷ record { base = VALUES-AT; end = BYTES-AT; lay = valuesOf }
     ∷ []
 
 pub spaced-texts : Spaced TEXTS-AT perText
@@ -168,10 +191,21 @@ spaced-texts = (omega arith, omega arith, tt)
 pub spaced-statements : Spaced HEADS-AT perStatement
 spaced-statements = (omega arith, omega arith, (omega arith, omega arith, (omega arith, omega arith, tt)))
 
-pub put-columns : (s : Pool) (m : List ℕ) → put s m ≡ over 0 (totals s) (putColumns perStatement (program s) (putColumns perText s m))
+-- the strings' bytes stand behind all columns
+pub texts-before : Within BYTES-AT perText
+texts-before = (omega arith, tt)
+
+pub statements-before : Within BYTES-AT perStatement
+statements-before = (omega arith, (omega arith, (omega arith, tt)))
+
+-- m with bytes written over those of strings from place `at` on
+abbrev pub inkedAt : (at : ℕ) → (bs m : List ℕ) → List ℕ
+inkedAt at bs m = inkedIn BYTES-AT BYTEWORDS at bs m
+
+pub put-columns : (s : Pool) (m : List ℕ) → put s m ≡ over 0 (totals s) (putColumns perStatement (program s) (putColumns perText s (inkedAt 0 (stringBytes s) m)))
 unfolding put
 put-columns s m =
-    sym (λ i. over 0 (totals s) (over VALUES-AT (values s) (over NAMES-AT (flat nameOf (program s)) (over HEADS-AT (flat-map headWord (program s) i) (over TEXTS-AT (flat-map textWord s i) m)))))
+    sym (λ i. over 0 (totals s) (over VALUES-AT (values s) (over NAMES-AT (flat nameOf (program s)) (over HEADS-AT (flat-map headWord (program s) i) (over TEXTS-AT (flat-map textWord s i) (inkedAt 0 (stringBytes s) m))))))
 
 pub length-laid-texts : (s : Pool) → length (flat (λ t. textWord t ∷ []) s) ≡ length s
 length-laid-texts s = ap length (flat-map textWord s) ∙ length-map s textWord
@@ -206,19 +240,31 @@ module _ (m : List ℕ) (s : Pool) (H : Holds m s) where
     ),
   )
 
+  -- all bytes of strings stand at the beginning of theirs
+  pub holds-bytes : At 0 (stringBytes s) (octets (part BYTES-AT BYTEWORDS m))
+  holds-bytes = ap (λ (k : ℕ). take k (octets (part BYTES-AT BYTEWORDS m))) (sym (H .byteCount=)) ∙ H .bytes
+
 -- ---- a memory that was put into holds what was put
 
--- the three totals are read back
-totals-at : (a b c : ℕ) (m : List ℕ) → At 0 (a ∷ b ∷ c ∷ []) m → (getD m 0 0 ≡ a) × (getD m 1 0 ≡ b) × (getD m 2 0 ≡ c)
-totals-at a b c m h = (
-  sym (getD-take 3 m 0 0 (lit< tt)) ∙ ap (λ (l : List ℕ). getD l 0 0) h,
-  sym (getD-take 3 m 1 0 (lit< tt)) ∙ ap (λ (l : List ℕ). getD l 1 0) h,
-  sym (getD-take 3 m 2 0 (lit< tt)) ∙ ap (λ (l : List ℕ). getD l 2 0) h,
+-- the four totals are read back
+totals-at : (a b c d : ℕ) (m : List ℕ) → At 0 (a ∷ b ∷ c ∷ d ∷ []) m → (getD m 0 0 ≡ a) × (getD m 1 0 ≡ b) × (getD m 2 0 ≡ c) × (getD m 3 0 ≡ d)
+totals-at a b c d m h = (
+  sym (getD-take 4 m 0 0 (lit< tt)) ∙ ap (λ (l : List ℕ). getD l 0 0) h,
+  sym (getD-take 4 m 1 0 (lit< tt)) ∙ ap (λ (l : List ℕ). getD l 1 0) h,
+  sym (getD-take 4 m 2 0 (lit< tt)) ∙ ap (λ (l : List ℕ). getD l 2 0) h,
+  sym (getD-take 4 m 3 0 (lit< tt)) ∙ ap (λ (l : List ℕ). getD l 3 0) h,
 )
 
+-- the bytes of a legal state's strings are bytes
+pub bytes-legal : (s : Pool) → Legal s → Bytes (stringBytes s)
+bytes-legal s L = each-weaken _ _ (λ b e. omega (arith, fair-below b e)) (stringBytes s) (letters-laid (program s) (L .statements))
+
 module _ (s : Pool) (m : List ℕ) (F : Fits s) (n : length m ≡ WORDS) where
+  abbrev m₀ : List ℕ
+  m₀ = inkedAt 0 (stringBytes s) m
+
   abbrev m₁ : List ℕ
-  m₁ = putColumns perText s m
+  m₁ = putColumns perText s m₀
 
   abbrev m₂ : List ℕ
   m₂ = putColumns perStatement (program s) m₁
@@ -226,8 +272,11 @@ module _ (s : Pool) (m : List ℕ) (F : Fits s) (n : length m ≡ WORDS) where
   abbrev m₃ : List ℕ
   m₃ = over 0 (totals s) m₂
 
+  n₀ : length m₀ ≡ WORDS
+  n₀ = length-inked-in BYTES-AT BYTEWORDS 0 (stringBytes s) m (omega arith) ∙ n
+
   n₁ : length m₁ ≡ WORDS
-  n₁ = length-putColumns perText s m ∙ n
+  n₁ = length-putColumns perText s m₀ ∙ n₀
 
   n₂ : length m₂ ≡ WORDS
   n₂ = length-putColumns perStatement (program s) m₁ ∙ n₁
@@ -235,7 +284,7 @@ module _ (s : Pool) (m : List ℕ) (F : Fits s) (n : length m ≡ WORDS) where
   texts₃ : Stands perText s m₃
   texts₃ =
       let r = room-texts s F in
-      let a = put-stands perText s m TEXTS-AT spaced-texts r (omega (arith, n), tt) in
+      let a = put-stands perText s m₀ TEXTS-AT spaced-texts r (omega (arith, n₀), tt) in
       let b = at-putColumns perStatement (program s) m₁ HEADS-AT TEXTS-AT _ spaced-statements (r .0) (a .0) in
       (at-after TEXTS-AT _ 0 (totals s) m₂ (omega arith) b, tt)
 
@@ -245,9 +294,24 @@ module _ (s : Pool) (m : List ℕ) (F : Fits s) (n : length m ≡ WORDS) where
       stands-over perStatement (program s) m₂ HEADS-AT 0 (totals s) spaced-statements (omega arith)
       (put-stands perStatement (program s) m₁ HEADS-AT spaced-statements (room-statements s F) w)
 
-  holds₃ : Holds m₃ s
-  holds₃ =
-      let z = totals-at (length s) (length (program s)) (length (values s)) m₃ (part-over 0 (totals s) m₂ (omega (arith, n₂))) in
+  -- the columns and the totals are written before the strings' bytes
+  area₃ : part BYTES-AT BYTEWORDS m₃ ≡ part BYTES-AT BYTEWORDS m₀
+  area₃ =
+      part-after BYTES-AT BYTEWORDS 0 (totals s) m₂ (omega arith)
+      ∙ part-putColumns perStatement (program s) m₁ BYTES-AT BYTEWORDS statements-before (room-statements s F)
+      ∙ part-putColumns perText s m₀ BYTES-AT BYTEWORDS texts-before (room-texts s F)
+
+  bytes₃ : Bytes (stringBytes s) → At 0 (stringBytes s) (octets (part BYTES-AT BYTEWORDS m₃))
+  bytes₃ f =
+      let p = part BYTES-AT BYTEWORDS m in
+      let l : length p ≡ BYTEWORDS = length-part BYTES-AT BYTEWORDS m (omega arith) in
+      ap (λ (x : List ℕ). part 0 (length (stringBytes s)) (octets x)) area₃
+      ∙ ap (part 0 (length (stringBytes s))) (octets-area BYTES-AT BYTEWORDS 0 (stringBytes s) m (omega arith) f)
+      ∙ part-over 0 (stringBytes s) (octets p) (omega (arith, length-octets p, F .bytes))
+
+  holds₃ : Bytes (stringBytes s) → Holds m₃ s
+  holds₃ f =
+      let z = totals-at (length s) (length (program s)) (length (values s)) (length (stringBytes s)) m₃ (part-over 0 (totals s) m₂ (omega (arith, n₂))) in
       let t = texts₃ in
       let r = statements₃ in
       record {
@@ -255,30 +319,20 @@ module _ (s : Pool) (m : List ℕ) (F : Fits s) (n : length m ≡ WORDS) where
         textCount= = z .0;
         statementCount= = z .1;
         valueCount= = z .2;
+        byteCount= = z .3;
         texts = at-area TEXTS-AT (textCount m₃) _ m₃ (z .0 ∙ sym (length-laid-texts s)) (t .0) ∙ flat-map textWord s;
         heads = at-area HEADS-AT (statementCount m₃) _ m₃ (z .1 ∙ sym (length-laid-heads (program s))) (r .0) ∙ flat-map headWord (program s);
         names = at-area NAMES-AT (NAMEWORDS * statementCount m₃) _ m₃ (ap (λ (k : ℕ). NAMEWORDS * k) (z .1) ∙ sym (length-laid-names (program s))) (r .1 .0);
         values = at-area VALUES-AT (valueCount m₃) _ m₃ (z .2) (r .1 .1 .0);
+        bytes = ap (λ (k : ℕ). take k (octets (part BYTES-AT BYTEWORDS m₃))) (z .3) ∙ bytes₃ f;
         fits = F;
       }
 
-  pub put-holds : Holds (put s m) s
-  put-holds = subst (λ (x : List ℕ). Holds x s) (sym (put-columns s m)) holds₃
+  pub put-holds : Bytes (stringBytes s) → Holds (put s m) s
+  put-holds f = subst (λ (x : List ℕ). Holds x s) (sym (put-columns s m)) (holds₃ f)
 
   pub decode-put : Legal s → decode (put s m) ≡ s
-  decode-put L = decode-holds (put s m) s put-holds (L .statements)
+  decode-put L = decode-holds (put s m) s (put-holds (bytes-legal s L)) (L .statements)
 
   pub put-sound : Legal s → sound (put s m) ≡ true
-  put-sound L = of-sound (put s m) (holds-sound (put s m) s put-holds L)
-
-  pub put-words : Legal s → Bounded s → Words m → Words (put s m)
-  unfolding put
-  put-words L B w =
-      let P : ℕ → Type 0 = λ x. x < WORD in
-      let t = words-texts s (B .labels) (each-short-text s (omega (arith, F .statements))) in
-      let h = words-heads (program s) (each-short (program s) (omega (arith, F .values))) in
-      let k = words-names (program s) (L .statements) in
-      let v = words-values (program s) (B .values) in
-      each-over P 0 (totals s) _ (omega (arith, F .texts), (omega (arith, F .statements), (omega (arith, F .values), tt)))
-      (each-over P VALUES-AT (values s) _ v (each-over P NAMES-AT (flat nameOf (program s)) _ k
-      (each-over P HEADS-AT (map headWord (program s)) _ h (each-over P TEXTS-AT (map textWord s) m t w))))
+  put-sound L = of-sound (put s m) (holds-sound (put s m) s (put-holds (bytes-legal s L)) L)

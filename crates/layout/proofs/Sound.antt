@@ -2,41 +2,55 @@
 use mathlib.Core.Path.{_≡_, refl, sym, _∙_}
 use mathlib.Core.Bool.{Bool, true, false, _&&_}
 use mathlib.Core.List.{List, [], _∷_, map}
-use Prim.Native.Nat.{ℕ, _≤_}
+use Prim.Native.Nat.{ℕ, _/_, _≤_}
 use borrow.Author.Tests.{eqb-true, leb-true, eq-eqb, le-leb}
 use lib.Dec.{eqb, leb}
 use lib.ListN.{length, take, drop}
 use Rattle.plain.specs.Choice.{if_then_else_}
+use Rattle.plain.specs.Bytes.{fair}
 use Rattle.words.specs.Halves.{upper, lower, sum, all}
 use Rattle.plain.proofs.Tests.{both, first-then}
 use Rattle.plain.proofs.Each.{Each, each-weaken}
 use Rattle.words.proofs.Each.{all-each, each-all}
 use Rattle.words.proofs.Halves.{Different, distinct-different, different-distinct}
-use Rattle.layout.specs.Limits.{TEXTS, STATEMENTS, VALUES, WORDS, NAMEWORDS}
-use Rattle.layout.specs.Names.{holdsName}
-use Rattle.layout.specs.Memory.{textCount, statementCount, valueCount, textWords, headWords, nameWords, valueWords}
-use Rattle.layout.specs.Damage.{Framed, sized, limited, labelled, named, operated, summed, grouped, bounded, small, allNamed, sound}
+use Rattle.layout.specs.Limits.{TEXTS, STATEMENTS, VALUES, BYTES, WORDS}
+use Rattle.names.specs.Names.{NAMEWORDS, holdsName}
+use Rattle.layout.specs.Memory.{textCount, statementCount, valueCount, byteCount, textWords, headWords, nameWords, valueWords, heldBytes}
+use Rattle.layout.specs.Damage.{Framed, Tallied, sized, limited, labelled, named, operated, summed, grouped, bounded, spaced, lettered, fits, allNamed, allFit, totalBytes, sound}
 
 -- each statement's four words hold a legal name
 abbrev pub Named : (heads names : List ℕ) → Type 0
 Named [] ns = Unit {0}
 Named (h ∷ hs) ns = (holdsName (take NAMEWORDS ns) ≡ true) × Named hs (drop NAMEWORDS ns)
 
+-- each statement's values fit its kind
+abbrev pub Fitting : (heads values : List ℕ) → Type 0
+Fitting [] vs = Unit {0}
+Fitting (h ∷ hs) vs = Each (λ w. fits (upper h / 2) w ≡ true) (take (lower h) vs) × Fitting hs (drop (lower h) vs)
+
 pub record Sound (m : List ℕ) : Type 0 where
   pub sizes : Framed m
   pub labels : Different (map upper (textWords m))
   pub names : Named (headWords m) (nameWords m)
-  pub operators : Each (λ h. upper h ≤ 1) (headWords m)
+  pub operators : Each (λ h. upper h ≤ 3) (headWords m)
   pub counts : Each (λ h. 1 ≤ lower h) (headWords m)
   pub values= : sum (headWords m) ≡ valueCount m
   pub statements= : sum (textWords m) ≡ statementCount m
-  pub values : Each (λ w. small w ≡ true) (valueWords m)
+  pub fitting : Fitting (headWords m) (valueWords m)
+  pub bytes= : totalBytes (headWords m) (valueWords m) ≡ byteCount m
+  pub letters : Each (λ b. fair b ≡ true) (heldBytes m)
 
 -- ---- the conditions in order
 
 -- those from each condition on
+abbrev pub from-bytes : List ℕ → Bool
+from-bytes m = spaced m && lettered m
+
+abbrev pub from-values : List ℕ → Bool
+from-values m = bounded m && from-bytes m
+
 abbrev pub from-groups : List ℕ → Bool
-from-groups m = grouped m && bounded m
+from-groups m = grouped m && from-values m
 
 abbrev pub from-counts : List ℕ → Bool
 from-counts m = summed m && from-groups m
@@ -53,24 +67,34 @@ from-labels m = labelled m && from-names m
 abbrev pub from-limits : List ℕ → Bool
 from-limits m = limited m && from-labels m
 
-in-order : (s l a n o c g b : Bool) → (if s && l then a && n && o && c && g && b else false) ≡ s && (l && (a && (n && (o && (c && (g && b))))))
-in-order false l a n o c g b = refl
-in-order true false a n o c g b = refl
-in-order true true false n o c g b = refl
-in-order true true true false o c g b = refl
-in-order true true true true false c g b = refl
-in-order true true true true true false g b = refl
-in-order true true true true true true g b = refl
+in-order : (s l a n o c g b t f : Bool) → (if s && l then a && n && o && c && g && b && t && f else false) ≡ s && (l && (a && (n && (o && (c && (g && (b && (t && f))))))))
+in-order false l a n o c g b t f = refl
+in-order true false a n o c g b t f = refl
+in-order true true false n o c g b t f = refl
+in-order true true true false o c g b t f = refl
+in-order true true true true false c g b t f = refl
+in-order true true true true true false g b t f = refl
+in-order true true true true true true false b t f = refl
+in-order true true true true true true true false t f = refl
+in-order true true true true true true true true t f = refl
 
 pub sound-in-order : (m : List ℕ) → sound m ≡ sized m && from-limits m
 unfolding sound
-sound-in-order m = in-order (sized m) (limited m) (labelled m) (named m) (operated m) (summed m) (grouped m) (bounded m)
+sound-in-order m = in-order (sized m) (limited m) (labelled m) (named m) (operated m) (summed m) (grouped m) (bounded m) (spaced m) (lettered m)
 
 pub framed-of : (m : List ℕ) → sized m ≡ true → limited m ≡ true → Framed m
 framed-of m e f =
-    let a = both (leb (textCount m) TEXTS && leb (statementCount m) STATEMENTS) (leb (valueCount m) VALUES) f in
-    let b = both (leb (textCount m) TEXTS) (leb (statementCount m) STATEMENTS) (a .0) in
-    record { words = eqb-true _ _ e; texts = leb-true _ _ (b .0); statements = leb-true _ _ (b .1); values = leb-true _ _ (a .1) }
+    let t = leb (textCount m) TEXTS in
+    let s = leb (statementCount m) STATEMENTS in
+    let v = leb (valueCount m) VALUES in
+    let a = both (t && s && v) (leb (byteCount m) BYTES) f in
+    let b = both (t && s) v (a .0) in
+    let c = both t s (b .0) in
+    record { words = eqb-true _ _ e; texts = leb-true _ _ (c .0); statements = leb-true _ _ (c .1); values = leb-true _ _ (b .1); bytes = leb-true _ _ (a .1) }
+
+pub tallied-of : (m : List ℕ) → Framed m → summed m ≡ true → Tallied m
+tallied-of m z e =
+    record { sizes = z; values = eqb-true _ _ (both (all (λ h. leb 1 (lower h)) (headWords m)) (eqb (sum (headWords m)) (valueCount m)) e .1) }
 
 -- ---- names, from the test and back
 
@@ -86,6 +110,20 @@ unfolding allNamed
 of-named [] ns f = refl
 of-named (h ∷ hs) ns f = rw (f .0) (of-named hs (drop NAMEWORDS ns) (f .1))
 
+-- ---- values that fit, from the test and back
+
+fitting-of : (hs vs : List ℕ) → allFit hs vs ≡ true → Fitting hs vs
+unfolding allFit
+fitting-of [] vs e = tt
+fitting-of (h ∷ hs) vs e =
+    let b = first-then (all (fits (upper h / 2)) (take (lower h) vs)) (allFit hs (drop (lower h) vs)) e in
+    (all-each (fits (upper h / 2)) (take (lower h) vs) (b .0), fitting-of hs (drop (lower h) vs) (b .1))
+
+of-fitting : (hs vs : List ℕ) → Fitting hs vs → allFit hs vs ≡ true
+unfolding allFit
+of-fitting [] vs f = refl
+of-fitting (h ∷ hs) vs f = rw (each-all (fits (upper h / 2)) (take (lower h) vs) (f .0)) (of-fitting hs (drop (lower h) vs) (f .1))
+
 -- ---- the facts from the test, and back
 
 pub sound-of : (m : List ℕ) → sound m ≡ true → Sound m
@@ -97,16 +135,20 @@ sound-of m e =
     let o = both (operated m) (from-counts m) (n .1) in
     let c = both (summed m) (from-groups m) (o .1) in
     let d = both (all (λ h. leb 1 (lower h)) (headWords m)) (eqb (sum (headWords m)) (valueCount m)) (c .0) in
-    let g = both (grouped m) (bounded m) (c .1) in
+    let g = both (grouped m) (from-values m) (c .1) in
+    let b = both (bounded m) (from-bytes m) (g .1) in
+    let t = both (spaced m) (lettered m) (b .1) in
     record {
       sizes = framed-of m (z .0) (l .0);
       labels = distinct-different (textWords m) (a .0);
       names = named-of (headWords m) (nameWords m) (n .0);
-      operators = each-weaken _ _ (λ h f. leb-true (upper h) 1 f) (headWords m) (all-each (λ h. leb (upper h) 1) (headWords m) (o .0));
+      operators = each-weaken _ _ (λ h f. leb-true (upper h) 3 f) (headWords m) (all-each (λ h. leb (upper h) 3) (headWords m) (o .0));
       counts = each-weaken _ _ (λ h f. leb-true 1 (lower h) f) (headWords m) (all-each (λ h. leb 1 (lower h)) (headWords m) (d .0));
       values= = eqb-true _ _ (d .1);
       statements= = eqb-true _ _ (g .0);
-      values = all-each small (valueWords m) (g .1);
+      fitting = fitting-of (headWords m) (valueWords m) (b .0);
+      bytes= = eqb-true _ _ (t .0);
+      letters = all-each fair (heldBytes m) (t .1);
     }
 
 pub of-sound : (m : List ℕ) → Sound m → sound m ≡ true
@@ -116,11 +158,14 @@ of-sound m S =
     let x : leb (textCount m) TEXTS ≡ true = le-leb _ _ (z .texts) in
     let y : leb (statementCount m) STATEMENTS ≡ true = le-leb _ _ (z .statements) in
     let v : leb (valueCount m) VALUES ≡ true = le-leb _ _ (z .values) in
+    let k : leb (byteCount m) BYTES ≡ true = le-leb _ _ (z .bytes) in
     let a : labelled m ≡ true = different-distinct (textWords m) (S .labels) in
     let n : named m ≡ true = of-named (headWords m) (nameWords m) (S .names) in
-    let o : operated m ≡ true = each-all (λ h. leb (upper h) 1) (headWords m) (each-weaken _ _ (λ h f. le-leb (upper h) 1 f) (headWords m) (S .operators)) in
+    let o : operated m ≡ true = each-all (λ h. leb (upper h) 3) (headWords m) (each-weaken _ _ (λ h f. le-leb (upper h) 3 f) (headWords m) (S .operators)) in
     let c : all (λ h. leb 1 (lower h)) (headWords m) ≡ true = each-all (λ h. leb 1 (lower h)) (headWords m) (each-weaken _ _ (λ h f. le-leb 1 (lower h) f) (headWords m) (S .counts)) in
     let d : eqb (sum (headWords m)) (valueCount m) ≡ true = eq-eqb _ _ (S .values=) in
     let g : grouped m ≡ true = eq-eqb _ _ (S .statements=) in
-    let b : bounded m ≡ true = each-all small (valueWords m) (S .values) in
-    sound-in-order m ∙ (λ i. s i && (x i && y i && v i && (a i && (n i && (o i && (c i && d i && (g i && b i)))))))
+    let b : bounded m ≡ true = of-fitting (headWords m) (valueWords m) (S .fitting) in
+    let t : spaced m ≡ true = eq-eqb _ _ (S .bytes=) in
+    let l : lettered m ≡ true = each-all fair (heldBytes m) (S .letters) in
+    sound-in-order m ∙ (λ i. s i && (x i && y i && v i && k i && (a i && (n i && (o i && (c i && d i && (g i && (b i && (t i && l i)))))))))

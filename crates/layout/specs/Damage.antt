@@ -6,10 +6,12 @@ use mathlib.Core.List.{List, [], _∷_}
 use lib.Dec.{eqb, ltb, leb}
 use lib.ListN.{length, take, drop}
 use Rattle.plain.specs.Choice.{if_then_else_}
-use Rattle.words.specs.Halves.{upper, lower, sum, distinct, all}
-use Rattle.layout.specs.Limits.{TEXTS, STATEMENTS, VALUES, WORDS, NAMEWORDS}
-use Rattle.layout.specs.Names.{holdsName}
-use Rattle.layout.specs.Memory.{textCount, statementCount, valueCount, textWords, headWords, nameWords, valueWords}
+use Rattle.plain.specs.Bytes.{fair}
+use Rattle.value.specs.Strings.{STRING}
+use Rattle.words.specs.Halves.{HALF, upper, lower, sum, distinct, all}
+use Rattle.names.specs.Names.{NAMEWORDS, holdsName}
+use Rattle.layout.specs.Limits.{TEXTS, STATEMENTS, VALUES, BYTES, WORDS}
+use Rattle.layout.specs.Memory.{textCount, statementCount, valueCount, byteCount, textWords, headWords, nameWords, valueWords, heldBytes, bytesTaken}
 
 -- "memory of the fixed size"
 abbrev pub sized : List ℕ → Bool
@@ -17,7 +19,7 @@ sized m = eqb (length m) WORDS
 
 -- "totals within the limits"
 abbrev pub limited : List ℕ → Bool
-limited m = leb (textCount m) TEXTS && leb (statementCount m) STATEMENTS && leb (valueCount m) VALUES
+limited m = leb (textCount m) TEXTS && leb (statementCount m) STATEMENTS && leb (valueCount m) VALUES && leb (byteCount m) BYTES
 
 -- both as facts: what reading the areas requires
 pub record Framed (m : List ℕ) : Type 0 where
@@ -25,6 +27,7 @@ pub record Framed (m : List ℕ) : Type 0 where
   pub texts : textCount m ≤ TEXTS
   pub statements : statementCount m ≤ STATEMENTS
   pub values : valueCount m ≤ VALUES
+  pub bytes : byteCount m ≤ BYTES
 
 -- "labels distinct"
 abbrev pub labelled : List ℕ → Bool
@@ -40,7 +43,7 @@ abbrev pub named : List ℕ → Bool
 named m = allNamed (headWords m) (nameWords m)
 
 abbrev pub operated : List ℕ → Bool
-operated m = all (λ h. leb (upper h) 1) (headWords m)
+operated m = all (λ h. leb (upper h) 3) (headWords m)
 
 -- "every statement's count at least 1 and the counts adding up to the total"
 abbrev pub summed : List ℕ → Bool
@@ -49,6 +52,16 @@ summed m = all (λ h. leb 1 (lower h)) (headWords m) && eqb (sum (headWords m)) 
 -- "statements grouped by text in load order, each under a held label": the texts' numbers of statements add up
 abbrev pub grouped : List ℕ → Bool
 grouped m = eqb (sum (textWords m)) (statementCount m)
+
+-- what reading values statement by statement requires: the heads count no more than there are, and these are few enough to be summed
+pub record Counted (heads values : List ℕ) : Type 0 where
+  pub within : sum heads ≤ length values
+  pub few : length values ≤ HALF
+
+-- so it is with the heads and values of a memory whose counts add up
+pub record Tallied (m : List ℕ) : Type 0 where
+  pub sizes : Framed m
+  pub values : sum (headWords m) ≡ valueCount m
 
 -- "every held value finite and of size below 2^200": a double is, exactly when its exponent's field is below 1023 + 200
 abbrev pub BIAS : ℕ
@@ -60,11 +73,34 @@ exponentField w = w / 4503599627370496 % 2048
 abbrev pub small : ℕ → Bool
 small w = ltb (exponentField w) (BIAS + 200)
 
+-- "a string over its length": a value's word fits its statement's kind, 0 being numbers
+abbrev pub fits : (kind w : ℕ) → Bool
+fits kind w = if eqb kind 0 then small w else leb w STRING
+
+unfoldable pub allFit : (heads values : List ℕ) → Bool
+unfolding all
+allFit [] vs = true
+allFit (h ∷ hs) vs = if all (fits (upper h / 2)) (take (lower h) vs) then allFit hs (drop (lower h) vs) else false
+
 abbrev pub bounded : List ℕ → Bool
-bounded m = all small (valueWords m)
+bounded m = allFit (headWords m) (valueWords m)
+
+-- "lengths that do not add up to the string total"
+unfoldable pub totalBytes : (heads values : List ℕ) → ℕ
+totalBytes [] vs = 0
+totalBytes (h ∷ hs) vs = bytesTaken (upper h / 2) (take (lower h) vs) + totalBytes hs (drop (lower h) vs)
+
+abbrev pub spaced : List ℕ → Bool
+spaced m = eqb (totalBytes (headWords m) (valueWords m)) (byteCount m)
+
+-- "with other bytes": strings are "drawn from the data line's bytes"
+abbrev pub lettered : List ℕ → Bool
+lettered m = all fair (heldBytes m)
 
 -- the memory is not damaged
 unfoldable pub sound : List ℕ → Bool
-unfolding allNamed
+unfolding allNamed allFit totalBytes
 sound m =
-    if sized m && limited m then labelled m && named m && operated m && summed m && grouped m && bounded m else false
+    if sized m && limited m
+    then labelled m && named m && operated m && summed m && grouped m && bounded m && spaced m && lettered m
+    else false

@@ -1,6 +1,5 @@
 -- A pool's state, its memory, and when a memory is damaged.
 pub mod State
 pub mod Limits
-pub mod Names
 pub mod Memory
 pub mod Damage

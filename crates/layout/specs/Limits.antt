@@ -1,10 +1,11 @@
 -- "A pool is memory of one fixed size, lent by the caller. It holds up to 16 texts, each under a label (any 32-bit unsigned number),
--- 512 statements and 3,072 values." The limits, and the places of the areas in that memory (docs/LAYOUT.md). Definitions only.
+-- 512 statements and 3,072 values." "A string counts as a value; a pool keeps their bytes in a further 8,192." The limits, and the
+-- places of the areas in that memory (docs/LAYOUT.md). Definitions only.
 use Prim.Native.Nat.{ℕ}
 use mathlib.Core.Bool.{Bool, _&&_}
 use lib.Dec.{leb}
 use lib.ListN.{length}
-use Rattle.layout.specs.State.{Pool, program, values}
+use Rattle.layout.specs.State.{Pool, program, values, stringBytes}
 
 abbrev pub TEXTS : ℕ
 TEXTS = 16
@@ -15,30 +16,37 @@ STATEMENTS = 512
 abbrev pub VALUES : ℕ
 VALUES = 3072
 
--- the words of a name
-abbrev pub NAMEWORDS : ℕ
-NAMEWORDS = 4
+abbrev pub BYTES : ℕ
+BYTES = 8192
 
--- where each area begins: after the three totals, the texts, the statements' heads, their names, the values
+-- the words of the strings' bytes, eight to a word
+abbrev pub BYTEWORDS : ℕ
+BYTEWORDS = 1024
+
+-- where each area begins: after the four totals, the texts, the statements' heads, their names, the values, the bytes of strings
 abbrev pub TEXTS-AT : ℕ
-TEXTS-AT = 3
+TEXTS-AT = 4
 
 abbrev pub HEADS-AT : ℕ
-HEADS-AT = 19
+HEADS-AT = 20
 
 abbrev pub NAMES-AT : ℕ
-NAMES-AT = 531
+NAMES-AT = 532
 
 abbrev pub VALUES-AT : ℕ
-VALUES-AT = 2579
+VALUES-AT = 2580
+
+abbrev pub BYTES-AT : ℕ
+BYTES-AT = 5652
 
 -- the size of the memory, in words
 abbrev pub WORDS : ℕ
-WORDS = 5651
+WORDS = 6676
 
 -- the limits are kept
 unfoldable pub room : Pool → Bool
-room s = leb (length s) TEXTS && leb (length (program s)) STATEMENTS && leb (length (values s)) VALUES
+room s =
+    leb (length s) TEXTS && leb (length (program s)) STATEMENTS && leb (length (values s)) VALUES && leb (length (stringBytes s)) BYTES
 
 -- the longest text that is loaded, in bytes: "over 65,536 bytes" is too long
 abbrev pub LONGEST-LOAD : ℕ

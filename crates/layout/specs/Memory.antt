@@ -1,21 +1,22 @@
 -- The memory of a pool, word by word (docs/LAYOUT.md): `decode` reads the texts that it holds, `put` writes them. Definitions only.
-use Prim.Native.Nat.{ℕ, _*_}
+use Prim.Native.Nat.{ℕ, _+_, _*_, _/_, _%_}
 use mathlib.Core.List.{List, [], _∷_, map}
 use lib.Dec.{eqb}
 use lib.ListN.{length, take, drop, getD}
 use Rattle.plain.specs.Choice.{if_then_else_}
-use Rattle.text.specs.Statements.{Statement}
-use Rattle.text.specs.declared.statements.Operator.{Operator}
-use Rattle.text.specs.declared.statements.Operator.the-variants.{Direct, Append}
+use Rattle.statement.specs.Statements.{Values, numbers, strings, howMany, Statement}
+use Rattle.statement.specs.declared.head.Operator.{Operator}
+use Rattle.statement.specs.declared.head.Operator.the-variants.{Direct, Append}
 use Rattle.words.specs.Over.{over, part}
-use Rattle.words.specs.Halves.{upper, lower, joined}
-use Rattle.layout.specs.State.{Text, Pool, program, flat, values}
-use Rattle.layout.specs.Limits.{TEXTS-AT, HEADS-AT, NAMES-AT, VALUES-AT, NAMEWORDS}
-use Rattle.layout.specs.Names.{packed, unpacked}
+use Rattle.words.specs.Halves.{upper, lower, joined, sum}
+use Rattle.octets.specs.Octets.{octets, inkedIn}
+use Rattle.names.specs.Names.{NAMEWORDS, packed, unpacked}
+use Rattle.layout.specs.State.{Text, Pool, program, flat, values, stringBytes}
+use Rattle.layout.specs.Limits.{TEXTS-AT, HEADS-AT, NAMES-AT, VALUES-AT, BYTES-AT, BYTEWORDS}
 
 -- ---- from memory
 
--- the totals: texts, statements, values
+-- the totals: texts, statements, values, bytes of strings
 abbrev pub textCount : List ℕ → ℕ
 textCount m = getD m 0 0
 
@@ -24,6 +25,9 @@ statementCount m = getD m 1 0
 
 abbrev pub valueCount : List ℕ → ℕ
 valueCount m = getD m 2 0
+
+abbrev pub byteCount : List ℕ → ℕ
+byteCount m = getD m 3 0
 
 -- the words in use of each area
 abbrev pub textWords : List ℕ → List ℕ
@@ -38,6 +42,10 @@ nameWords m = part NAMES-AT (NAMEWORDS * statementCount m) m
 abbrev pub valueWords : List ℕ → List ℕ
 valueWords m = part VALUES-AT (valueCount m) m
 
+-- the bytes in use of the strings' words
+abbrev pub heldBytes : List ℕ → List ℕ
+heldBytes m = take (byteCount m) (octets (part BYTES-AT BYTEWORDS m))
+
 -- an operator's number: 0 is `=`, 1 is `+=`
 abbrev pub operatorNumber : Operator → ℕ
 operatorNumber Direct = 0
@@ -46,13 +54,34 @@ operatorNumber Append = 1
 abbrev pub operatorOf : ℕ → Operator
 operatorOf n = if eqb n 0 then Direct else Append
 
--- statements cut out of heads, names and values
-unfoldable pub cutStatements : (heads names values : List ℕ) → List Statement
-unfolding unpacked
-cutStatements [] ns vs = []
-cutStatements (h ∷ hs) ns vs =
-    record { name = unpacked (take NAMEWORDS ns); operator = operatorOf (upper h); values = take (lower h) vs }
-    ∷ cutStatements hs (drop NAMEWORDS ns) (drop (lower h) vs)
+-- a head's upper number is kind · 2 + operator; kind 0 is numbers, 1 is strings
+abbrev pub kindNumber : Values → ℕ
+kindNumber (numbers bits) = 0
+kindNumber (strings ss) = 1
+
+-- strings cut out of bytes by their lengths
+unfoldable pub cutStrings : (lengths bytes : List ℕ) → List (List ℕ)
+cutStrings [] bs = []
+cutStrings (n ∷ ns) bs = take n bs ∷ cutStrings ns (drop n bs)
+
+-- a statement's values, of its words and the bytes from there on; and how many bytes they take
+abbrev pub cutValues : (kind : ℕ) (words bytes : List ℕ) → Values
+cutValues kind ws bs = if eqb kind 0 then numbers ws else strings (cutStrings ws bs)
+
+abbrev pub bytesTaken : (kind : ℕ) (words : List ℕ) → ℕ
+bytesTaken kind ws = if eqb kind 0 then 0 else sum ws
+
+-- statements cut out of heads, names, values and bytes
+unfoldable pub cutStatements : (heads names values bytes : List ℕ) → List Statement
+unfolding unpacked cutStrings
+cutStatements [] ns vs bs = []
+cutStatements (h ∷ hs) ns vs bs =
+    record {
+      name = unpacked (take NAMEWORDS ns);
+      operator = operatorOf (upper h % 2);
+      values = cutValues (upper h / 2) (take (lower h) vs) bs;
+    }
+    ∷ cutStatements hs (drop NAMEWORDS ns) (drop (lower h) vs) (drop (bytesTaken (upper h / 2) (take (lower h) vs)) bs)
 
 -- texts cut out of the texts' words and the statements
 unfoldable pub cutTexts : List ℕ → List Statement → Pool
@@ -61,7 +90,7 @@ cutTexts (w ∷ ws) ss = record { label = upper w; body = take (lower w) ss } �
 
 unfoldable pub decode : List ℕ → Pool
 unfolding cutTexts cutStatements
-decode m = cutTexts (textWords m) (cutStatements (headWords m) (nameWords m) (valueWords m))
+decode m = cutTexts (textWords m) (cutStatements (headWords m) (nameWords m) (valueWords m) (heldBytes m))
 
 -- ---- to memory
 
@@ -69,13 +98,13 @@ abbrev pub textWord : Text → ℕ
 textWord t = joined (t .label) (length (t .body))
 
 abbrev pub headWord : Statement → ℕ
-headWord s = joined (operatorNumber (s .operator)) (length (s .values))
+headWord s = joined (kindNumber (s .values) * 2 + operatorNumber (s .operator)) (howMany (s .values))
 
 abbrev pub nameOf : Statement → List ℕ
 nameOf s = packed (s .name)
 
 abbrev pub totals : Pool → List ℕ
-totals s = length s ∷ length (program s) ∷ length (values s) ∷ []
+totals s = length s ∷ length (program s) ∷ length (values s) ∷ length (stringBytes s) ∷ []
 
 -- m with the state s written into its areas and its totals; every word that s does not use stays
 unfoldable pub put : Pool → List ℕ → List ℕ
@@ -84,4 +113,4 @@ put s m =
     (over VALUES-AT (values s)
     (over NAMES-AT (flat nameOf (program s))
     (over HEADS-AT (map headWord (program s))
-    (over TEXTS-AT (map textWord s) m))))
+    (over TEXTS-AT (map textWord s) (inkedIn BYTES-AT BYTEWORDS 0 (stringBytes s) m)))))

@@ -13,8 +13,7 @@ use Rattle.plain.specs.Lists.{equal}
 use Rattle.plain.proofs.Each.{each-at, each-take, each-drop}
 use Rattle.words.proofs.Each.{WORD, Words, all-each}
 use Rattle.words.proofs.Steps.{drop-next, drop-end}
-use Rattle.layout.specs.Limits.{NAMEWORDS}
-use Rattle.layout.specs.Names.{unpacked}
+use Rattle.names.specs.Names.{NAMEWORDS, unpacked}
 use Rattle.order.specs.Order.{before, inserted}
 use Rattle.order.specs.Places.{Legible, Places, nameCount, wordsAt, nameAt, namesAt, cutNames, ordered}
 use Rattle.order.proofs.Packed.{before-unpacked, equal-unpacked}

@@ -12,10 +12,11 @@ use Rattle.plain.specs.Choice.{if_then_else_}
 use Rattle.plain.specs.Lists.{equal}
 use Rattle.plain.specs.Runs.{run, skip}
 use Rattle.plain.proofs.Tests.{both, first-then, true-false}
-use Rattle.text.specs.Classes.{nameByte}
+use Rattle.value.specs.Classes.{nameByte}
 use Rattle.words.specs.Halves.{all}
 use Rattle.words.proofs.Each.{WORD, Words}
-use Rattle.layout.specs.Names.{bytesOf, bytes, unpacked, holdsName}
+use Rattle.octets.specs.Octets.{bytesOf, octets}
+use Rattle.names.specs.Names.{unpacked, holdsName}
 use Rattle.order.specs.Order.{before}
 
 -- two numbers decide, or what follows them where they are the same
@@ -79,12 +80,12 @@ module _ (w v : ℕ) (k : w < WORD) (l : v < WORD) where
       ∙ up 281474976710656 72057594037927936 (omega arith) (omega arith) _
       ∙ top _
 
-before-bytes : (a b : List ℕ) → length a ≡ length b → Words a → Words b → before (bytes a) (bytes b) ≡ before a b
-unfolding before bytes
+before-bytes : (a b : List ℕ) → length a ≡ length b → Words a → Words b → before (octets a) (octets b) ≡ before a b
+unfolding before octets
 before-bytes [] [] l f g = refl
 before-bytes [] (y ∷ ys) l f g = absurd (omega arith)
 before-bytes (x ∷ xs) [] l f g = absurd (omega arith)
-before-bytes (x ∷ xs) (y ∷ ys) l f g = sym (first-bytes x y (f .0) (g .0) (bytes xs) (bytes ys)) ∙ ap (first x y) (before-bytes xs ys (omega arith) (f .1) (g .1))
+before-bytes (x ∷ xs) (y ∷ ys) l f g = sym (first-bytes x y (f .0) (g .0) (octets xs) (octets ys)) ∙ ap (first x y) (before-bytes xs ys (omega arith) (f .1) (g .1))
 
 -- ---- and names as the bytes that hold them
 
@@ -133,15 +134,15 @@ before-runs (x ∷ xs) (y ∷ ys) l e f = by (nameByte x) (nameByte y) refl refl
 
 -- ---- names
 
-pub length-bytes : (ws : List ℕ) → length (bytes ws) ≡ 8 * length ws
-unfolding bytes
+pub length-bytes : (ws : List ℕ) → length (octets ws) ≡ 8 * length ws
+unfolding octets
 length-bytes [] = refl
-length-bytes (w ∷ ws) = omega (arith, length-append (bytesOf w) (bytes ws), length-bytes ws)
+length-bytes (w ∷ ws) = omega (arith, length-append (bytesOf w) (octets ws), length-bytes ws)
 
 -- the bytes after a held name are zeros
-holds-ends : (ws : List ℕ) → holdsName ws ≡ true → ends (bytes ws) ≡ true
+holds-ends : (ws : List ℕ) → holdsName ws ≡ true → ends (octets ws) ≡ true
 unfolding holdsName
-holds-ends ws e = both (leb 1 (length (unpacked ws))) (ends (bytes ws)) e .1
+holds-ends ws e = both (leb 1 (length (unpacked ws))) (ends (octets ws)) e .1
 
 -- neither of two lists stands before the other exactly when they are equal
 pub equal-neither : (xs ys : List ℕ) → equal xs ys ≡ not (before xs ys) && not (before ys xs)
@@ -161,7 +162,7 @@ module _ (a b : List ℕ) (l : length a ≡ length b) (A : Words a) (B : Words b
   pub before-unpacked : before (unpacked a) (unpacked b) ≡ before a b
   unfolding unpacked
   before-unpacked =
-      before-runs (bytes a) (bytes b) (omega (arith, length-bytes a, length-bytes b)) (holds-ends a f) (holds-ends b g) ∙ before-bytes a b l A B
+      before-runs (octets a) (octets b) (omega (arith, length-bytes a, length-bytes b)) (holds-ends a f) (holds-ends b g) ∙ before-bytes a b l A B
 
 module _ (a b : List ℕ) (l : length a ≡ length b) (A : Words a) (B : Words b) (f : holdsName a ≡ true) (g : holdsName b ≡ true) where
   pub equal-unpacked : equal (unpacked a) (unpacked b) ≡ equal a b

@@ -12,7 +12,7 @@ use Rattle.plain.specs.Choice.{if_then_else_}
 use Rattle.plain.specs.Lists.{equal}
 use Rattle.plain.proofs.Tests.{or-cases, both, true-false}
 use Rattle.plain.proofs.Each.{Each, each-weaken}
-use Rattle.text.specs.Statements.{Statement}
+use Rattle.statement.specs.Statements.{Statement}
 use Rattle.order.specs.Order.{before, inserted, names}
 use Rattle.order.proofs.Packed.{first, first-less, first-same, equal-neither}
 

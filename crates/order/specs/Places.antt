@@ -9,8 +9,7 @@ use Rattle.plain.specs.Choice.{if_then_else_}
 use Rattle.plain.specs.Lists.{equal}
 use Rattle.words.specs.Over.{over, part}
 use Rattle.words.specs.Halves.{all}
-use Rattle.layout.specs.Limits.{NAMEWORDS}
-use Rattle.layout.specs.Names.{unpacked, holdsName}
+use Rattle.names.specs.Names.{NAMEWORDS, unpacked, holdsName}
 use Rattle.order.specs.Order.{before, inserted}
 use Rattle.order.specs.declared.Spot.{Spot}
 use Rattle.order.specs.declared.Spot.the-variants.{At, Held}

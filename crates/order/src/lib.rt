@@ -1,14 +1,14 @@
 // "the variables in byte order of names": the places of a pool's names, in the order of the names, each name once.
-pub mod names;
+pub mod in_words;
 
-use layout::limits::NAMEWORDS;
-use names::name_at;
-use names::stands_before;
+use in_words::name_at;
+use in_words::stands_before;
+use names::pack::NAMEWORDS;
 use words::compare::same;
 ghost use mathlib.Core.Path.{_≡_};
 ghost use Prim.Native.Nat.{_≤_, _<_};
 ghost use lib.ListN.{length};
-ghost use Rattle.layout.specs.Limits.{NAMEWORDS};
+ghost use Rattle.names.specs.Names.{NAMEWORDS};
 ghost use Rattle.order.specs.Places.{Inserting, Inserts, Ordering, Orders, nameAt, namesAt, spot, raised};
 
 // Where a name belongs among names in order, if it is not held yet.

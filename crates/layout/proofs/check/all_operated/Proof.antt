@@ -13,7 +13,7 @@ use Rattle.layout.proofs.check.all_operated.Statement.{statement}
 use Rattle.layout.proofs.check.all_operated.Tie as tie
 
 abbrev legalOperator : ℕ → Bool
-legalOperator h = leb (upper h) 1
+legalOperator h = leb (upper h) 3
 
 abbrev Inv-loop : tie.InvT-loop
 Inv-loop heads i₀ i = (i ≤ length heads) × (all legalOperator (drop i heads) ≡ all legalOperator heads)

@@ -13,7 +13,7 @@ all-operated-requires : tie.Need-all-operated-requires
 all-operated-requires c κs = search needs
 
 returns : tie.Need-returns
-returns c = c .all-operated .ensures ∙ ap (all (λ h. leb (upper h) 1)) (c .before .heads-of .ensures)
+returns c = c .all-operated .ensures ∙ ap (all (λ h. leb (upper h) 3)) (c .before .heads-of .ensures)
 
 pub is-operated-spec : {M : Type 1} → statement M
 is-operated-spec = tie.close (tie.spec heads-of-requires all-operated-requires returns)

@@ -1,0 +1,4 @@
+-- Laws about names in words, for the proofs of the crates above.
+pub mod Bytes
+pub mod Tapering
+pub mod Names

@@ -1,0 +1,2 @@
+-- A name in four words.
+pub mod Names

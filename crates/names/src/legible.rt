@@ -1,0 +1,67 @@
+// "names .. legal": words that hold a name's bytes from the most significant down, and zeros after it.
+use value::classes::Class;
+use value::classes::in_class;
+use words::scan::all_zero;
+ghost use mathlib.Core.Path.{_≡_};
+ghost use Prim.Native.Nat.{_<_};
+ghost use lib.Dec.{eqb};
+ghost use Rattle.plain.specs.Runs.{skip};
+ghost use Rattle.value.specs.Classes.{nameByte};
+ghost use Rattle.words.specs.Halves.{all};
+ghost use Rattle.octets.specs.Octets.{bytesOf, octets};
+ghost use Rattle.names.specs.Names.{holdsName};
+
+// The place of a word's highest byte, 2^56.
+const HIGHEST: u64 = 72057594037927936;
+
+const BYTE: u64 = 256;
+
+// The words hold a legal name, and zeros after it.
+pub fn holds_name(ws: &[u64]) -> bool
+    ensures { λ r. ⌜ r ≡ holdsName (now (ws .entry)) ⌝ }
+{
+    if ws.len() == 0 {
+        return false;
+    }
+    if !is_name_byte(ws[0] / HIGHEST) {
+        return false;
+    }
+    all_taper(ws)
+}
+
+// The words hold name bytes, and zeros after them: from a word on whose last byte is zero, every word is.
+fn all_taper(ws: &[u64]) -> bool
+    ensures { λ r. ⌜ r ≡ all (eqb 0) (skip nameByte (octets (now (ws .entry)))) ⌝ }
+{
+    let mut i = 0;
+    while i < ws.len() {
+        let w = ws[i];
+        i += 1;
+        if !tapers(w) {
+            return false;
+        }
+        if w % BYTE == 0 {
+            return all_zero(&ws[i..]);
+        }
+    }
+    true
+}
+
+// The word holds name bytes, and zeros after them: it is shifted up while a name byte is highest.
+fn tapers(w: u64) -> bool
+    ensures { λ r. ⌜ r ≡ all (eqb 0) (skip nameByte (bytesOf w)) ⌝ }
+{
+    let mut rest = w;
+    while is_name_byte(rest / HIGHEST) {
+        rest = rest % HIGHEST * BYTE;
+    }
+    rest == 0
+}
+
+// A letter, digit or underscore.
+fn is_name_byte(b: u64) -> bool
+    requires { ⌜ b < 256 ⌝ }
+    ensures { λ r. ⌜ r ≡ nameByte b ⌝ }
+{
+    in_class(Class::Name, b as u8)
+}
