@@ -1,67 +1,54 @@
 -- The gathering forward: what is left to write, from the place reached on, makes the variable that is wanted. Assumes nothing.
-use Prim.Native.Nat.{ℕ, _+_, _*_, _≤_, _<_}
+use Prim.Native.Nat.{ℕ, _+_, _*_, _/_, _≤_, _<_}
 use mathlib.Core.Path.{_≡_, refl, sym, ap, ap₂, _∙_}
 use mathlib.Core.Bool.{Bool, true, false}
-use mathlib.Core.List.{List, [], _∷_, _++_, map}
+use mathlib.Core.List.{List, _++_, map}
 use native.Mathlib.Omega.{arith}
 use lib.Ieee.{Float, binary64, ofBits}
-use lib.ListN.{length, drop, getD, length-append, length-map}
+use lib.ListN.{length, getD, length-append, length-map}
 use Rattle.plain.specs.Lists.{equal}
-use Rattle.text.specs.Statements.{Statement}
+use Rattle.statement.specs.Statements.{Statement}
 use Rattle.words.specs.Over.{over, part}
-use Rattle.words.specs.Halves.{lower, all}
-use Rattle.plain.proofs.Each.{each-take, each-drop}
+use Rattle.words.specs.Halves.{upper, lower, all}
 use Rattle.words.proofs.Each.{each-all}
-use Rattle.words.proofs.Halves.{sum-take-next}
 use Rattle.words.proofs.Over.{over-nil, over-append, length-over}
-use Rattle.layout.specs.State.{program, flat}
-use Rattle.layout.specs.Limits.{NAMEWORDS}
-use Rattle.layout.specs.Memory.{statementCount, headWords, valueWords, decode}
+use Rattle.names.specs.Names.{NAMEWORDS}
+use Rattle.layout.specs.Memory.{statementCount, valueWords, decode}
 use Rattle.layout.specs.Damage.{small}
-use Rattle.layout.proofs.Areas.{length-heads}
 use Rattle.layout.proofs.Sound.{Sound}
-use Rattle.variables.specs.Variables.{has, gives, variable}
-use Rattle.variables.specs.Found.{doubles}
-use Rattle.variables.specs.Walk.{Begins}
-use Rattle.variables.proofs.Held.{headAt, offsetAt, statementAt, values-within, program-end, count-at, program-next}
-use Rattle.variables.proofs.Names.{Hands, has-told, head-told}
-
-abbrev reals : List ℕ → List Float
-reals ws = map (ofBits binary64) ws
-
-reals-append : (xs ys : List ℕ) → reals (xs ++ ys) ≡ reals xs ++ reals ys
-reals-append [] ys = refl
-reals-append (x ∷ xs) ys = ap (λ (l : List Float). ofBits binary64 x ∷ l) (reals-append xs ys)
-
--- the values with the name of the statements from place s on
-abbrev left : (name m : List ℕ) (s : ℕ) → List ℕ
-left name m s = flat (gives name) (drop s (program (decode m)))
+use Rattle.variables.specs.Variables.{Datum, each}
+use Rattle.variables.specs.Found.{numbersAmong, doubles}
+use Rattle.variables.specs.Walk.{stringCount, Begins}
+use Rattle.variables.proofs.Counts.{count-append, numbers-append, numbers-cut, small-cut}
+use Rattle.variables.proofs.Held.{headAt, offsetAt, valuesAt, bytesFrom, statementAt, values-within, length-valuesAt, fits-at}
+use Rattle.variables.proofs.Names.{Hands}
+use Rattle.variables.proofs.Ahead.{left, left-all, left-none, count-told, length-given, offset-next, left-other, left-given}
 
 pub record Gathered (name m : List ℕ) (before out : List Float) (s value at : ℕ) : Type 0 where
   pub within : s ≤ statementCount m
   pub offset : value ≡ offsetAt m s
-  pub rest : over at (reals (left name m s)) out ≡ over 0 (doubles name (decode m)) before
+  pub rest : over at (numbersAmong (left name m s)) out ≡ over 0 (doubles name (decode m)) before
+  pub numeric : stringCount (left name m s) ≡ 0
   pub space : at + length (left name m s) ≤ length out
   pub long : length out ≡ length before
 
-pub gathered-none : (name m : List ℕ) (out : List Float) (s value count : ℕ) → Begins name m s value count → count ≤ length out → Gathered name m out out s value 0
-unfolding variable
-gathered-none name m out s value count B h =
-    let e : left name m s ≡ variable name (decode m) = ap (flat (gives name)) (sym (B .here)) in
+pub gathered-none : (name m : List ℕ) (out : List Float) (s value count strings : ℕ) → Begins name m s value count strings → strings ≡ 0 → count ≤ length out → Gathered name m out out s value 0
+gathered-none name m out s value count strings B z h =
+    let e = left-all B in
     record {
       within = B .within;
       offset = B .offset;
-      rest = ap (λ (l : List ℕ). over 0 (reals l) out) e;
+      rest = ap (λ (l : List Datum). over 0 (numbersAmong l) out) e;
+      numeric = ap stringCount e ∙ sym (B .kinds) ∙ z;
       space = omega (arith, ap length e, B .size);
       long = refl;
     }
 
 pub gathered-all : (name m : List ℕ) (before out : List Float) (s value at : ℕ) → Sound m → statementCount m ≤ s → Gathered name m before out s value at
     → out ≡ over 0 (doubles name (decode m)) before
-unfolding flat
 gathered-all name m before out s value at S h G =
-    let d = program-end m S s (omega (arith, G .within)) in
-    sym (over-nil at out) ∙ sym (ap (λ (l : List Statement). over at (reals (flat (gives name) l)) out) d) ∙ G .rest
+    let d = left-none name m s S (omega (arith, G .within)) in
+    sym (over-nil at out) ∙ sym (ap (λ (l : List Datum). over at (numbersAmong l) out) d) ∙ G .rest
 
 -- ---- the statement at place s
 
@@ -73,72 +60,81 @@ module _ {m name words heads names : List ℕ} (H : Hands m name words heads nam
   abbrev x : Statement
   x = statementAt m s
 
+  abbrev later : List Datum
+  later = left name m (s + 1)
+
   -- the bits of its values
   abbrev bits : List ℕ
   bits = part value n values
 
   count= : n ≡ lower (headAt m s)
-  count= = ap lower (head-told H s)
+  count= = count-told H (G .offset) h
 
-  bits= : bits ≡ x .values
+  bits= : bits ≡ valuesAt m s
   bits= = λ i. part (G .offset i) (count= i) (v i)
 
   pub length-bits : length bits ≡ n
-  length-bits = ap length bits= ∙ count-at m (H .sound) s h ∙ sym count=
-
-  left-next : left name m s ≡ gives name x ++ left name m (s + 1)
-  unfolding flat
-  left-next = ap (flat (gives name)) (program-next m (H .sound) s h)
-
-  offset-next : value + n ≡ offsetAt m (s + 1)
-  offset-next =
-      ap₂ (λ (a b : ℕ). a + b) (G .offset) count=
-      ∙ sym (sum-take-next s (headWords m) (omega (arith, length-heads m (H .sound .sizes))))
+  length-bits = ap length bits= ∙ length-valuesAt m (H .sound) s h ∙ sym count=
 
   pub bits-within : value + n ≤ length values
   bits-within = omega (arith, G .offset, count=, ap length v, values-within m (H .sound) s h)
 
-  pub bits-small : all small bits ≡ true
-  bits-small =
-      ap (λ (l : List ℕ). all small (part value n l)) v
-      ∙ each-all small (part value n (valueWords m))
-      (each-take (λ w. small w ≡ true) n (drop value (valueWords m)) (each-drop (λ w. small w ≡ true) value (valueWords m) (H .sound .values)))
-
   module _ (t : Bool) (e : t ≡ equal (part (NAMEWORDS * s) NAMEWORDS names) words) where
-    tells : has name x ≡ t
-    tells = has-told H s h t e
-
     pub gather-other : t ≡ false → Gathered name m before out (s + 1) (value + n) at
     gather-other f =
-        let g : left name m s ≡ left name m (s + 1) = left-next ∙ rw (tells ∙ f) in
+        let g = left-other H (G .offset) h t e f in
         record {
           within = omega arith;
-          offset = offset-next;
-          rest = sym (ap (λ (l : List ℕ). over at (reals l) out) g) ∙ G .rest;
+          offset = offset-next H (G .offset) h;
+          rest = sym (ap (λ (l : List Datum). over at (numbersAmong l) out) g) ∙ G .rest;
+          numeric = sym (ap stringCount g) ∙ G .numeric;
           space = omega (arith, ap length g, G .space);
           long = G .long;
         }
 
     module _ (f : t ≡ true) where
-      taken : left name m s ≡ bits ++ left name m (s + 1)
-      taken = left-next ∙ rw (tells ∙ f) (ap (λ (l : List ℕ). l ++ left name m (s + 1)) (sym bits=))
+      taken : left name m s ≡ each (x .values) ++ later
+      taken = left-given H (G .offset) h t e f
+
+      length-taken : length (left name m s) ≡ n + length later
+      length-taken = omega (arith, ap length taken, length-append (each (x .values)) later, length-given H (G .offset) h)
+
+      counts : stringCount (each (x .values)) + stringCount later ≡ 0
+      counts = sym (ap stringCount taken ∙ count-append (each (x .values)) later) ∙ G .numeric
+
+      -- none of its values is a string
+      plain : stringCount (each (x .values)) ≡ 0
+      plain = omega (arith, counts)
+
+      reals : numbersAmong (left name m s) ≡ map (ofBits binary64) bits ++ numbersAmong later
+      reals =
+          ap numbersAmong taken
+          ∙ numbers-append (each (x .values)) later
+          ∙ ap (λ (l : List Float). l ++ numbersAmong later)
+          (numbers-cut (bytesFrom m s) (upper (headAt m s) / 2) (valuesAt m s) plain ∙ sym (ap (map (ofBits binary64)) bits=))
+
+      pub bits-small : all small bits ≡ true
+      bits-small =
+          ap (all small) bits=
+          ∙ each-all small (valuesAt m s) (small-cut (bytesFrom m s) (upper (headAt m s) / 2) (valuesAt m s) plain (fits-at m (H .sound) s h))
 
       pub gather-room : at + n ≤ length out
-      gather-room = omega (arith, ap length taken, length-append bits (left name m (s + 1)), length-bits, G .space)
+      gather-room = omega (arith, length-taken, G .space)
 
-      pub gather-copy : (after : List Float) → after ≡ over at (reals bits) out → Gathered name m before after (s + 1) (value + n) (at + n)
+      pub gather-copy : (after : List Float) → after ≡ over at (map (ofBits binary64) bits) out → Gathered name m before after (s + 1) (value + n) (at + n)
       gather-copy after e =
-          let r = left name m (s + 1) in
-          let l : length after ≡ length out = ap length e ∙ length-over at (reals bits) out in
-          let k : n ≡ length (reals bits) = sym (length-map bits (ofBits binary64) ∙ length-bits) in
+          let ws = map (ofBits binary64) bits in
+          let l : length after ≡ length out = ap length e ∙ length-over at ws out in
+          let k : n ≡ length ws = sym (length-map bits (ofBits binary64) ∙ length-bits) in
           record {
             within = omega arith;
-            offset = offset-next;
+            offset = offset-next H (G .offset) h;
             rest =
-                ap₂ (λ (j : ℕ) (o : List Float). over (at + j) (reals r) o) k e
-                ∙ sym (over-append at (reals bits) (reals r) out)
-                ∙ sym (ap (λ (l : List Float). over at l out) (ap reals taken ∙ reals-append bits r))
+                ap₂ (λ (j : ℕ) (o : List Float). over (at + j) (numbersAmong later) o) k e
+                ∙ sym (over-append at ws (numbersAmong later) out)
+                ∙ sym (ap (λ (l : List Float). over at l out) reals)
                 ∙ G .rest;
-            space = omega (arith, ap length taken, length-append bits r, length-bits, G .space, l);
+            numeric = omega (arith, counts);
+            space = omega (arith, length-taken, G .space, l);
             long = l ∙ G .long;
           }

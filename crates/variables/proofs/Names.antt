@@ -13,11 +13,11 @@ use Rattle.plain.proofs.Tests.{true-false, is-false}
 use Rattle.plain.proofs.Each.{each-take, each-drop}
 use Rattle.words.proofs.Each.{WORD, Words}
 use Rattle.words.proofs.Same.{same-refl, same-equal}
-use Rattle.layout.specs.Limits.{NAMEWORDS, NAMES-AT}
-use Rattle.layout.specs.Names.{legal, packed, unpacked, holdsName}
+use Rattle.names.specs.Names.{NAMEWORDS, legal, packed, unpacked, holdsName}
+use Rattle.names.proofs.Names.{same-name, same-words}
+use Rattle.layout.specs.Limits.{NAMES-AT}
 use Rattle.layout.specs.Memory.{statementCount, headWords, nameWords}
 use Rattle.layout.proofs.Areas.{length-heads, length-names}
-use Rattle.layout.proofs.Names.{same-name, same-words}
 use Rattle.layout.proofs.Sound.{Named, Sound}
 use Rattle.variables.specs.Variables.{has}
 use Rattle.variables.proofs.Held.{wordsAt, headAt, statementAt}

@@ -6,19 +6,21 @@ use mathlib.Core.List.{List, [], _∷_, _++_}
 use native.Mathlib.Omega.{arith}
 use lib.ListN.{length, length-append}
 use Rattle.plain.specs.Choice.{if_then_else_}
-use Rattle.text.specs.Statements.{Statement}
+use Rattle.statement.specs.Statements.{howMany, Statement}
 use Rattle.plain.proofs.Tests.{true-false, is-false}
 use Rattle.plain.proofs.Each.{Each, each-weaken}
 use Rattle.words.proofs.Same.{same-equal}
+use Rattle.names.specs.Names.{legal}
 use Rattle.layout.specs.State.{Pool, program, flat}
-use Rattle.layout.specs.Names.{legal}
 use Rattle.layout.proofs.Legal.{Fair, Legal}
-use Rattle.variables.specs.Variables.{isDirect, has, assigns, any, since, gives, variable, present}
+use Rattle.variables.specs.Variables.{isDirect, has, assigns, any, since, each, gives, variable, present, allNumbers}
+use Rattle.variables.specs.Found.{numbersAmong, doubles}
+use Rattle.variables.proofs.Counts.{length-each}
 use Rattle.variables.proofs.Since.{none-later, since-all}
 
 -- every statement has a value
 abbrev pub Filled : List Statement → Type 0
-Filled ss = Each (λ x. 1 ≤ length (x .values)) ss
+Filled ss = Each (λ x. 1 ≤ howMany (x .values)) ss
 
 module _ (name : List ℕ) where
   -- what assigns to the name has it
@@ -43,7 +45,7 @@ module _ (name : List ℕ) where
   given-none [] e = refl
   given-none (s ∷ ss) e = by (has name s) e (given-none ss (none-later (has name) s ss e))
     where
-      by : (a : Bool) → (if a then true else any (has name) ss) ≡ false → flat (gives name) ss ≡ [] → (if a then s .values else []) ++ flat (gives name) ss ≡ []
+      by : (a : Bool) → (if a then true else any (has name) ss) ≡ false → flat (gives name) ss ≡ [] → (if a then each (s .values) else []) ++ flat (gives name) ss ≡ []
       by true f g = true-false f
       by false f g = g
 
@@ -53,8 +55,8 @@ module _ (name : List ℕ) where
   given-some (s ∷ ss) f e = by (has name s) e (given-some ss (f .1))
     where
       by : (a : Bool) → (if a then true else any (has name) ss) ≡ true → (any (has name) ss ≡ true → 1 ≤ length (flat (gives name) ss))
-          → 1 ≤ length ((if a then s .values else []) ++ flat (gives name) ss)
-      by true g r = omega (arith, length-append (s .values) (flat (gives name) ss), f .0)
+          → 1 ≤ length ((if a then each (s .values) else []) ++ flat (gives name) ss)
+      by true g r = omega (arith, length-append (each (s .values)) (flat (gives name) ss), length-each (s .values), f .0)
       by false g r = r g
 
   since-some : (ss : List Statement) → Filled ss → any (has name) ss ≡ true → 1 ≤ length (flat (gives name) (since name ss))
@@ -72,9 +74,17 @@ module _ (name : List ℕ) where
     unfolding present variable
     absent-empty e = ap (flat (gives name)) (since-all name (program s) (none-assigns (program s) e)) ∙ given-none (program s) e
 
+    pub absent-doubles : present name s ≡ false → doubles name s ≡ []
+    absent-doubles e = ap numbersAmong (absent-empty e)
+
+    -- and no string
+    pub absent-numbers : present name s ≡ false → allNumbers (variable name s) ≡ true
+    unfolding allNumbers
+    absent-numbers e = ap allNumbers (absent-empty e)
+
     module _ (L : Legal s) where
       filled : Filled (program s)
-      filled = each-weaken Fair (λ x. 1 ≤ length (x .values)) (λ x f. f .some) (program s) (L .statements)
+      filled = each-weaken Fair (λ x. 1 ≤ howMany (x .values)) (λ x f. f .some) (program s) (L .statements)
 
       pub present-some : present name s ≡ true → 1 ≤ length (variable name s)
       unfolding present variable

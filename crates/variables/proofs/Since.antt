@@ -5,10 +5,12 @@ use mathlib.Core.Bool.{Bool, true, false}
 use mathlib.Core.List.{List, [], _∷_}
 use lib.ListN.{length, drop, length-append}
 use Rattle.plain.specs.Choice.{if_then_else_}
-use Rattle.text.specs.Statements.{Statement}
+use Rattle.statement.specs.Statements.{Statement}
 use Rattle.plain.proofs.Tests.{true-false}
 use Rattle.layout.specs.State.{flat}
 use Rattle.variables.specs.Variables.{assigns, any, since, gives}
+use Rattle.variables.specs.Walk.{stringCount}
+use Rattle.variables.proofs.Counts.{count-append}
 
 -- ---- some statement passes a test
 
@@ -63,3 +65,8 @@ module _ (name : List ℕ) where
       → length (flat (gives name) ss) ≡ length (gives name x) + length (flat (gives name) later)
   unfolding flat
   length-past ss x later e = ap (λ (l : List Statement). length (flat (gives name) l)) e ∙ length-append (gives name x) (flat (gives name) later)
+
+  pub count-past : (ss : List Statement) (x : Statement) (later : List Statement) → ss ≡ x ∷ later
+      → stringCount (flat (gives name) ss) ≡ stringCount (gives name x) + stringCount (flat (gives name) later)
+  unfolding flat
+  count-past ss x later e = ap (λ (l : List Statement). stringCount (flat (gives name) l)) e ∙ count-append (gives name x) (flat (gives name) later)

@@ -5,7 +5,7 @@ use layout::area::heads_of;
 use layout::area::names_of;
 use layout::area::values_of;
 use layout::limits::HALF;
-use layout::pack::pack;
+use names::pack::pack;
 use words::read::part_of;
 ghost use mathlib.Core.Path.{_≡_};
 ghost use mathlib.Core.Bool.{true};
@@ -15,17 +15,17 @@ ghost use lib.ListN.{length};
 ghost use lib.Ieee.{binary64, ofBits};
 ghost use Rattle.words.specs.Over.{over};
 ghost use Rattle.words.specs.Halves.{all};
-ghost use Rattle.layout.specs.Names.{legal};
+ghost use Rattle.names.specs.Names.{legal};
 ghost use Rattle.layout.specs.Memory.{decode};
 ghost use Rattle.layout.specs.Damage.{sound, small};
 ghost use Rattle.variables.specs.Walk.{Begins};
 ghost use Rattle.variables.specs.Found.{doubles};
 
-// The variable that begins at `start` is written from the buffer's start on.
+// The numbers of the variable that begins at `start`, none of its values being a string, are written from the buffer's start on.
 pub fn gather(pool: &[u64], name: &[u8], start: Start, out: &mut [f64])
     requires { ⌜ (sound (now pool) ≡ true) × (legal (now name) ≡ true) ⌝ }
-    requires { ⌜ Begins (now name) (now pool) (start .statement) (start .value) (start .count) ⌝ }
-    requires { ⌜ start .count ≤ length (now out) ⌝ }
+    requires { ⌜ Begins (now name) (now pool) (start .statement) (start .value) (start .count) (start .strings) ⌝ }
+    requires { ⌜ (start .strings ≡ 0) × (start .count ≤ length (now out)) ⌝ }
     ensures { λ _. ⌜ now (out .exit) ≡ over 0 (doubles (now (name .entry)) (decode (now (pool .entry)))) (now (out .entry)) ⌝ }
 {
     let words = pack(name);

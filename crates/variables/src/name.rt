@@ -1,8 +1,8 @@
 // The name that is asked for: any bytes, and the names that statements have.
-use layout::limits::NAMEWORDS;
-use text::classes::Class;
-use text::classes::past;
-use text::statements::NAME;
+use names::pack::NAMEWORDS;
+use statement::head::NAME;
+use value::classes::Class;
+use value::classes::past;
 use words::compare::same;
 use words::read::part_of;
 ghost use mathlib.Core.Path.{_≡_};
@@ -10,8 +10,7 @@ ghost use Prim.Native.Nat.{_+_, _*_, _≤_};
 ghost use lib.ListN.{length};
 ghost use Rattle.plain.specs.Lists.{equal};
 ghost use Rattle.words.specs.Over.{part};
-ghost use Rattle.layout.specs.Limits.{NAMEWORDS};
-ghost use Rattle.layout.specs.Names.{legal};
+ghost use Rattle.names.specs.Names.{NAMEWORDS, legal};
 
 // "the longest run of letters, digits or underscores, 1 to 32 of them"
 pub fn is_legal(name: &[u8]) -> bool

@@ -1,4 +1,4 @@
-// A variable of an undamaged pool.
+// A variable of numbers in an undamaged pool.
 use crate::gather::gather;
 use crate::name::is_legal;
 use crate::walk::walk;
@@ -7,10 +7,11 @@ ghost use mathlib.Core.Bool.{true};
 ghost use Rattle.layout.specs.Damage.{sound};
 ghost use Rattle.variables.specs.Found.{Finds};
 
-// Whether a variable is there, and has room: how many values it has.
+// Whether a variable is there, of the kind that is asked for, and has room: how many values or bytes it has.
 pub enum Found {
     Count(usize),
     TooMany,
+    Mixed,
     Absent,
 }
 
@@ -26,6 +27,9 @@ pub fn variable(pool: &[u64], name: &[u8], out: &mut [f64]) -> Found
     let count = start.count;
     if count == 0 {
         return Found::Absent;
+    }
+    if 0 < start.strings {
+        return Found::Mixed;
     }
     if out.len() < count {
         return Found::TooMany;

@@ -49,7 +49,7 @@ loop-holds c =
       heads= = c .before .before .heads-of .ensures;
       names= = c .before .names-of .ensures;
     } in
-    (H, c .values-of .ensures, gathered-none _ _ _ _ _ _ (s .pre .1 .0) (s .pre .1 .1))
+    (H, c .values-of .ensures, gathered-none _ _ _ _ _ _ _ (s .pre .1 .0) (s .pre .1 .1 .0) (s .pre .1 .1 .1))
 
 -- in the loop, at the statement s
 abbrev In : Type 0
@@ -98,7 +98,7 @@ copy-doubles-requires c κs =
     let v = i .before .loop .inv in
     let e = c .before .part-of .ensures in (
       omega (arith, ap length e, length-bits (v .0) _ (v .1) (v .2) (there i), space t),
-      ap (all small) e ∙ bits-small (v .0) _ (v .1) (v .2) (there i),
+      ap (all small) e ∙ bits-small (v .0) _ (v .1) (v .2) (there i) _ (t .before .is-named .ensures) (t .if1 .taken),
     )
 
 add-at : tie.Need-add-at Inv-loop μ-loop

@@ -10,10 +10,10 @@ use lib.Dec.{eqb, leb, eqb·zero-suc, eqb·suc-suc}
 use lib.ListN.{length}
 use Rattle.plain.specs.Choice.{if_then_else_}
 use Rattle.plain.specs.Runs.{run, past}
-use Rattle.text.specs.Classes.{nameByte}
-use Rattle.text.specs.Statements.{NAME}
+use Rattle.value.specs.Classes.{nameByte}
+use Rattle.statement.specs.Head.{NAME}
 use Rattle.words.specs.Halves.{all}
-use Rattle.layout.specs.Names.{legal}
+use Rattle.names.specs.Names.{legal}
 use Rattle.variables.proofs.name.is_legal.Statement.{statement}
 use Rattle.variables.proofs.name.is_legal.Tie as tie
 

@@ -1,4 +1,5 @@
--- `variable` meets its contract: a name that is not legal is in no statement, and a count of 0 tells that none has it. Assumes nothing.
+-- `variable` meets its contract: a name that is not legal is in no statement, and a count of 0 tells that none has it.
+-- Assumes nothing.
 use mathlib.Core.Path.{_≡_, sym, _∙_}
 use mathlib.Core.Bool.{true}
 use mathlib.Core.List.{List}
@@ -14,7 +15,7 @@ use Rattle.layout.proofs.Sound.{sound-of}
 use Rattle.layout.proofs.Holds.{decode-legal}
 use Rattle.variables.specs.Variables.{variable, present}
 use Rattle.variables.proofs.Presence.{some-present, empty-absent, illegal-absent}
-use Rattle.variables.proofs.Finding.{finds-none, finds-many, finds-values}
+use Rattle.variables.proofs.Finding.{finds-none, finds-mixed, finds-many, finds-values}
 use Rattle.variables.proofs.variable.variable.Statement.{statement}
 use Rattle.variables.proofs.variable.variable.Tie as tie
 
@@ -43,25 +44,40 @@ there name m count S e n = some-present name (decode m) (lawful m S) (omega (ari
 
 returns-3 : tie.Need-returns-3
 returns-3 c =
-    let s = c .before .before .before .before .before .before .before .before in
-    let z = c .before .before .walk .ensures .size in
-    finds-many _ _ _ (there (s .args .name .now) (s .args .pool .now) _ (s .pre) z (c .before .if2 .left)) _ z (c .if3 .taken)
+    let w = c .before .before .before in
+    let s = w .before .before .before .before .before .before in
+    let z = w .walk .ensures .size in
+    finds-mixed _ _ _ (there (s .args .name .now) (s .args .pool .now) _ (s .pre) z (c .before .before .if2 .left)) _ _ z (w .walk .ensures .kinds)
+    (omega (arith, c .if3 .taken))
+
+returns-4 : tie.Need-returns-4
+returns-4 c =
+    let w = c .before .before .before .before in
+    let s = w .before .before .before .before .before .before in
+    let z = w .walk .ensures .size in
+    finds-many _ _ _ (there (s .args .name .now) (s .args .pool .now) _ (s .pre) z (c .before .before .before .if2 .left)) _ _ z (w .walk .ensures .kinds)
+    (omega (arith, c .before .if3 .left)) (c .if4 .taken)
 
 gather-requires : tie.Need-gather-requires
 gather-requires c κs =
-    let w = c .before .before .before in
-    let s = w .before .before .before .before .before .before in
-    ((s .pre, sym (w .before .before .is-legal .ensures) ∙ not-false _ (w .before .if1 .left)), (w .walk .ensures, c .before .if3 .left))
+    let t = c .before in
+    let w = t .before .before .before .before in
+    let s = w .before .before .before .before .before .before in (
+      (s .pre, sym (w .before .before .is-legal .ensures) ∙ not-false _ (w .before .if1 .left)),
+      (w .walk .ensures, (omega (arith, t .before .if3 .left), t .if4 .left)),
+    )
 
 same-length : tie.Need-same-length
 same-length c = search needs
 
-returns-4 : tie.Need-returns-4
-returns-4 c =
+returns-5 : tie.Need-returns-5
+returns-5 c =
     let t = c .before .before .before .before in
-    let s = t .before .before .before .before .before .before .before .before in
-    let z = t .before .before .walk .ensures .size in
-    finds-values _ _ _ (there (s .args .name .now) (s .args .pool .now) _ (s .pre) z (t .before .if2 .left)) _ z (t .if3 .left) _ (c .before .before .gather .ensures)
+    let w = t .before .before .before .before in
+    let s = w .before .before .before .before .before .before in
+    let z = w .walk .ensures .size in
+    finds-values _ _ _ (there (s .args .name .now) (s .args .pool .now) _ (s .pre) z (t .before .before .before .if2 .left)) _ _ z (w .walk .ensures .kinds)
+    (omega (arith, t .before .if3 .left)) (t .if4 .left) _ (c .before .before .gather .ensures)
 
 pub variable-spec : {M : Type 1} → statement M
 variable-spec =
@@ -72,6 +88,7 @@ variable-spec =
     walk-requires
     returns-2
     returns-3
+    returns-4
     gather-requires
     same-length
-    returns-4)
+    returns-5)

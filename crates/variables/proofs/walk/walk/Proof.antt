@@ -11,25 +11,25 @@ use Rattle.words.specs.Halves.{sum}
 use Rattle.words.proofs.Each.{words-of}
 use Rattle.layout.proofs.Sound.{sound-of}
 use Rattle.variables.proofs.Names.{Hands, length-hands, room-hands}
-use Rattle.variables.proofs.Passing.{sum-back, Passed, passed-none, values-left, count-left, pass-other, pass-append, begins-here, begins-first}
+use Rattle.variables.proofs.Passing.{sum-back, Passed, passed-none, values-left, count-left, strings-left, pass-other, pass-append, begins-here, begins-first}
 use Rattle.variables.proofs.walk.walk.Statement.{statement}
 use Rattle.variables.proofs.walk.walk.Tie as tie
 
 -- within a text: so many of its statements are left
 abbrev Inv-loop : tie.InvT-loop
-Inv-loop pool name words texts heads names t s₀ value₀ count₀ left₀ s value count left =
-    Hands pool name words heads names × (t ≤ length texts) × (s ≡ sum (take t texts) + left) × Passed name pool s value count
+Inv-loop pool name words texts heads names t s₀ value₀ count₀ strings₀ left₀ s value count strings left =
+    Hands pool name words heads names × (t ≤ length texts) × (s ≡ sum (take t texts) + left) × Passed name pool s value count strings
 
 abbrev μ-loop : tie.MeasureT-loop
-μ-loop pool name words texts heads names t s₀ value₀ count₀ left₀ s value count left = left
+μ-loop pool name words texts heads names t s₀ value₀ count₀ strings₀ left₀ s value count strings left = left
 
 -- the texts from t on are passed
 abbrev Inv-texts : tie.InvT-texts
-Inv-texts pool name words texts heads names t₀ s₀ value₀ count₀ t s value count =
-    Hands pool name words heads names × (t ≤ length texts) × (s ≡ sum (take t texts)) × Passed name pool s value count
+Inv-texts pool name words texts heads names t₀ s₀ value₀ count₀ strings₀ t s value count strings =
+    Hands pool name words heads names × (t ≤ length texts) × (s ≡ sum (take t texts)) × Passed name pool s value count strings
 
 abbrev μ-texts : tie.MeasureT-texts
-μ-texts pool name words texts heads names t₀ s₀ value₀ count₀ t s value count = t
+μ-texts pool name words texts heads names t₀ s₀ value₀ count₀ strings₀ t s value count strings = t
 
 pack-requires : tie.Need-pack-requires Inv-loop μ-loop Inv-texts μ-texts
 pack-requires c κs = search needs
@@ -125,14 +125,28 @@ add-count c =
     let v = i .before .loop .inv in
     omega (arith, count-left (v .0) (v .3) (some i), v .0 .sound .sizes .values)
 
+strings-in-requires : tie.Need-strings-in-requires Inv-loop μ-loop Inv-texts μ-texts
+strings-in-requires c κs = search needs
+
+add-strings : tie.Need-add-strings Inv-loop μ-loop Inv-texts μ-texts
+add-strings c =
+    let i = c .before .before .before .before .before in
+    let v = i .before .loop .inv in
+    omega (arith, strings-left (v .0) (v .3) (some i) _ (c .strings-in .ensures), v .0 .sound .sizes .values)
+
 loop-less : tie.Need-loop-less Inv-loop μ-loop Inv-texts μ-texts
 loop-less c = omega arith
 
 loop-again : tie.Need-loop-again Inv-loop μ-loop Inv-texts μ-texts
 loop-again c =
-    let i = c .before .before .before .before .before in
-    let v = i .before .loop .inv in
-    (v .0, v .1, omega (arith, v .2, i .loop-test .taken), pass-append (v .0) (v .3) (some i) _ (c .before .before .is-named .ensures) (c .before .if1 .taken) (c .if2 .left))
+    let p = c .before .before in
+    let i = p .before .before .before .before in
+    let v = i .before .loop .inv in (
+      v .0,
+      v .1,
+      omega (arith, v .2, i .loop-test .taken),
+      pass-append (v .0) (v .3) (some i) _ (p .before .is-named .ensures) (p .if1 .taken) _ (c .before .strings-in .ensures) (c .if2 .left),
+    )
 
 loop-less-2 : tie.Need-loop-less-2 Inv-loop μ-loop Inv-texts μ-texts
 loop-less-2 c = omega arith
@@ -148,13 +162,14 @@ unfolding sum
 returns c =
     let l = c .before .texts in
     let z : l .t ≡ 0 = omega arith in
-    begins-first _ _ _ _ _ (l .inv .2 ∙ ap (λ (k : ℕ). sum (take k (c .before .before .before .before .before .texts-of .result .now))) z) (l .inv .3)
+    begins-first _ _ _ _ _ _ (l .inv .2 ∙ ap (λ (k : ℕ). sum (take k (c .before .before .before .before .before .texts-of .result .now))) z) (l .inv .3)
 
 returns-2 : tie.Need-returns-2 Inv-loop μ-loop Inv-texts μ-texts
 returns-2 c =
-    let i = c .before .before .before .before .before in
+    let p = c .before .before in
+    let i = p .before .before .before .before in
     let v = i .before .loop .inv in
-    begins-here (v .0) (v .3) (some i) _ (c .before .before .is-named .ensures) (c .before .if1 .taken) (c .if2 .taken)
+    begins-here (v .0) (v .3) (some i) _ (p .before .is-named .ensures) (p .if1 .taken) _ (c .before .strings-in .ensures) (c .if2 .taken)
 
 pub walk-spec : {M : Type 1} → statement M
 walk-spec =
@@ -183,6 +198,8 @@ walk-spec =
     sub-value
     is-named-requires
     add-count
+    strings-in-requires
+    add-strings
     loop-less
     loop-again
     loop-less-2
