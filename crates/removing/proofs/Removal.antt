@@ -1,25 +1,29 @@
 -- Taking out the text at a place is putting the state without it: the numbers that the code sums up are the lengths of what stands
 -- before the gap, in it and after it. Assumes nothing.
-use mathlib.Core.Path.{_≡_, sym, ap, subst, _∙_}
-use mathlib.Core.List.{List, [], _∷_, _++_}
-use Prim.Native.Nat.{ℕ, suc, _+_, _-_, _<_}
+use mathlib.Core.Path.{_≡_, refl, sym, ap, ap₂, subst, _∙_}
+use mathlib.Core.List.{List, [], _∷_, _++_, map, append-assoc}
+use Prim.Native.Nat.{ℕ, suc, _+_, _-_, _/_, _<_}
 use native.Mathlib.Nat.{add-zero}
 use native.Mathlib.Omega.{arith}
-use lib.ListN.{length, drop, getD, length-append}
-use lib.Seq.{getD-take, getD-drop}
-use Rattle.text.specs.Statements.{Statement}
-use Rattle.words.specs.Halves.{HALF, lower, sum}
+use lib.ListN.{length, take, drop, getD, length-append}
+use lib.Seq.{getD-take, getD-drop, drop-at}
+use Rattle.statement.specs.Statements.{Statement}
+use Rattle.words.specs.Halves.{HALF, upper, lower, sum}
 use Rattle.words.specs.Over.{over, part}
 use Rattle.words.proofs.Halves.{lower-joined}
-use Rattle.layout.specs.State.{Text, Pool, program, flat, valuesOf, values}
+use Rattle.words.proofs.Each.{Words}
+use Rattle.plain.proofs.Each.{Each, each-left, each-right}
+use Rattle.layout.specs.State.{Text, Pool, program, flat, valuesOf, bytesOf, values, stringBytes}
 use Rattle.layout.specs.Limits.{TEXTS-AT, HEADS-AT, NAMES-AT, VALUES-AT}
-use Rattle.layout.specs.Memory.{textCount, statementCount, valueCount, textWord, headWord, put}
+use Rattle.layout.specs.Memory.{textCount, statementCount, valueCount, byteCount, valueWords, bytesTaken, textWord, headWord, put}
+use Rattle.layout.specs.Damage.{totalBytes}
 use Rattle.layout.proofs.Columns.{At, at-left, at-right, closeColumns, flat-append, flat-map}
-use Rattle.layout.proofs.Codec.{each-short, each-short-text, sum-texts, sum-heads, length-laid-names}
-use Rattle.layout.proofs.Legal.{program-append, values-append}
-use Rattle.layout.proofs.Holds.{Holds, perText, perStatement, holds-texts, holds-statements, length-laid-texts, length-laid-heads, holds-framed}
+use Rattle.layout.proofs.Spelling.{brief-fair}
+use Rattle.layout.proofs.Codec.{Short, each-short, each-short-text, sum-texts, sum-heads, head-rest, head-bytes, length-laid-names}
+use Rattle.layout.proofs.Legal.{Fair, program-append, values-append, bytes-append}
+use Rattle.layout.proofs.Holds.{Holds, perText, perStatement, inkedAt, holds-texts, holds-statements, length-laid-texts, length-laid-heads, holds-framed}
 use Rattle.layout.proofs.Changes as changes
-use Rattle.removing.specs.Gaps.{textGap, statementGap, valueGap, statementsBefore, statementsInside, valuesBefore, valuesInside, closing, left, closed, takenOut, Gapped}
+use Rattle.removing.specs.Gaps.{textGap, statementGap, valueGap, byteGap, statementsBefore, statementsInside, valuesBefore, valuesInside, bytesBefore, bytesInside, closing, closingBytes, fourfold, left, closed, takenOut, Gapped}
 use Rattle.removing.specs.declared.gap.Gap.{Gap}
 
 -- the words that a text and a statement have in their first columns
@@ -38,14 +42,29 @@ at-first o x xs m h =
     ap (λ (k : ℕ). getD m k 0) (sym (add-zero o)) ∙ sym (getD-drop o m 0 0)
     ∙ sym (getD-take (suc (length xs)) (drop o m) 0 0 (omega arith)) ∙ ap (λ (l : List ℕ). getD l 0 0) h
 
--- the heads of statements that stand at a place count their values
-counted-at : (o : ℕ) (ss : List Statement) (m : List ℕ) → At o (flat head ss) m → length (flat valuesOf ss) < HALF → (k : ℕ) → k ≡ length ss → sum (part o k m) ≡ length (flat valuesOf ss)
-counted-at o ss m h f k e =
-    ap (λ (j : ℕ). sum (part o j m)) (e ∙ sym (length-laid-heads ss)) ∙ ap sum (h ∙ flat-map headWord ss) ∙ sum-heads ss (each-short ss f)
+-- heads that count values take as many bytes as the strings among these have, whatever values follow
+bytes-front : (ss : List Statement) (vs : List ℕ) → Each Fair ss → Each Short ss → totalBytes (map headWord ss) (flat valuesOf ss ++ vs) ≡ length (flat bytesOf ss)
+unfolding totalBytes flat
+bytes-front [] vs f g = refl
+bytes-front (x ∷ ss) vs f g =
+    let k = upper (headWord x) / 2 in
+    let n = lower (headWord x) in
+    let r = flat valuesOf ss ++ vs in
+    let e : totalBytes (map headWord ss) (drop n (valuesOf x ++ r)) ≡ length (flat bytesOf ss) =
+    ap (totalBytes (map headWord ss)) (head-rest x (g .0) r) ∙ bytes-front ss vs (f .1) (g .1) in
+    ap (λ (l : List ℕ). bytesTaken k (take n l) + totalBytes (map headWord ss) (drop n l)) (append-assoc (valuesOf x) (flat valuesOf ss) vs)
+    ∙ omega (arith, head-bytes x (g .0) r (brief-fair (x .values) (f .0 .values)), e, length-append (bytesOf x) (flat bytesOf ss))
 
-module _ (m : List ℕ) (a : Pool) (t : Text) (b : Pool) (H : Holds m (a ++ (t ∷ b))) where
+-- the heads of statements that stand at a place
+heads-part : (o : ℕ) (ss : List Statement) (m : List ℕ) → At o (flat head ss) m → (k : ℕ) → k ≡ length ss → part o k m ≡ map headWord ss
+heads-part o ss m h k e = ap (λ (j : ℕ). part o j m) (e ∙ sym (length-laid-heads ss)) ∙ h ∙ flat-map headWord ss
+
+module _ (m : List ℕ) (a : Pool) (t : Text) (b : Pool) (H : Holds m (a ++ (t ∷ b))) (F : Each Fair (program (a ++ (t ∷ b)))) where
   abbrev values-t : List ℕ
   values-t = flat valuesOf (t .body)
+
+  abbrev bytes-t : List ℕ
+  bytes-t = flat bytesOf (t .body)
 
   -- ---- the areas, before the gap and from there on
 
@@ -75,6 +94,10 @@ module _ (m : List ℕ) (a : Pool) (t : Text) (b : Pool) (H : Holds m (a ++ (t �
   count-values : length (values a) + length values-t + length (values b) ≡ valueCount m
   count-values = omega (arith, H .valueCount=, ap length values-parted, length-append (values a) (values-t ++ values b), length-append values-t (values b))
 
+  count-bytes : length (stringBytes a) + length bytes-t + length (stringBytes b) ≡ byteCount m
+  count-bytes =
+      omega (arith, H .byteCount=, ap length (changes.bytes-parted m a t b H), length-append (stringBytes a) (bytes-t ++ stringBytes b), length-append bytes-t (stringBytes b))
+
   -- ---- the sums
 
   few-statements : length (program a) + length (t .body) < HALF
@@ -102,17 +125,44 @@ module _ (m : List ℕ) (a : Pool) (t : Text) (b : Pool) (H : Holds m (a ++ (t �
   abbrev s : Gap
   s = statementGap p m
 
-  values-before : valuesBefore s m ≡ length (values a)
-  values-before =
-      counted-at HEADS-AT (program a) m (at-left HEADS-AT (flat head (program a)) (flat head (t .body) ++ flat head (program b)) m heads-at)
-      (omega (arith, few-values)) (s .before) before-statements
+  heads-before : part HEADS-AT (s .before) m ≡ map headWord (program a)
+  heads-before = heads-part HEADS-AT (program a) m (at-left HEADS-AT (flat head (program a)) (flat head (t .body) ++ flat head (program b)) m heads-at) (s .before) before-statements
 
-  values-inside : valuesInside s m ≡ length values-t
-  values-inside =
+  heads-inside : part (HEADS-AT + s .before) (s .inside) m ≡ map headWord (t .body)
+  heads-inside =
       let o = HEADS-AT + length (flat head (program a)) in
       let h = at-right HEADS-AT (flat head (program a)) (flat head (t .body) ++ flat head (program b)) m heads-at in
-      ap (λ (k : ℕ). sum (part (HEADS-AT + k) (s .inside) m)) (before-statements ∙ sym (length-laid-heads (program a)))
-      ∙ counted-at o (t .body) m (at-left o (flat head (t .body)) (flat head (program b)) m h) (omega (arith, few-values)) (s .inside) inside-statements
+      ap (λ (k : ℕ). part (HEADS-AT + k) (s .inside) m) (before-statements ∙ sym (length-laid-heads (program a)))
+      ∙ heads-part o (t .body) m (at-left o (flat head (t .body)) (flat head (program b)) m h) (s .inside) inside-statements
+
+  short-before : Each Short (program a)
+  short-before = each-short (program a) (omega (arith, few-values))
+
+  short-inside : Each Short (t .body)
+  short-inside = each-short (t .body) (omega (arith, few-values))
+
+  values-before : valuesBefore s m ≡ length (values a)
+  values-before = ap sum heads-before ∙ sum-heads (program a) short-before
+
+  values-inside : valuesInside s m ≡ length values-t
+  values-inside = ap sum heads-inside ∙ sum-heads (t .body) short-inside
+
+  fair-parted : Each Fair (program a ++ (t .body ++ program b))
+  fair-parted = subst (Each Fair) parted F
+
+  values-held : valueWords m ≡ values a ++ (values-t ++ values b)
+  values-held = H .values ∙ values-parted
+
+  values-behind : drop (valuesBefore s m) (valueWords m) ≡ values-t ++ values b
+  values-behind = ap₂ drop values-before values-held ∙ drop-at (values a) (values-t ++ values b) (length (values a)) refl
+
+  bytes-before : bytesBefore s m ≡ length (stringBytes a)
+  bytes-before = ap₂ totalBytes heads-before values-held ∙ bytes-front (program a) (values-t ++ values b) (each-left Fair (program a) (t .body ++ program b) fair-parted) short-before
+
+  bytes-inside : bytesInside s m ≡ length bytes-t
+  bytes-inside =
+      ap₂ totalBytes heads-inside values-behind
+      ∙ bytes-front (t .body) (values b) (each-left Fair (t .body) (program b) (each-right Fair (program a) (t .body ++ program b) fair-parted)) short-inside
 
   pub gapped : Gapped p m
   gapped = record {
@@ -121,6 +171,7 @@ module _ (m : List ℕ) (a : Pool) (t : Text) (b : Pool) (H : Holds m (a ++ (t �
       sizes = holds-framed m (a ++ (t ∷ b)) H;
       statements = omega (arith, before-statements, inside-statements, count-statements);
       values = omega (arith, values-before, values-inside, count-values);
+      bytes = omega (arith, bytes-before, bytes-inside, count-bytes);
     };
   }
 
@@ -141,20 +192,31 @@ module _ (m : List ℕ) (a : Pool) (t : Text) (b : Pool) (H : Holds m (a ++ (t �
       let z : valueGap s m .after ≡ length (values b) = omega (arith, values-before, values-inside, count-values) in
       λ i. gap (values-before i) (values-inside i) (z i)
 
-  -- closed by these numbers, every column is closed
-  columns : closed (textGap p m) s (valueGap s m) m ≡ closeColumns perStatement (program a) (t .body) (program b) (closeColumns perText a (t ∷ []) b m)
+  byte-gap : byteGap s m ≡ gap (length (stringBytes a)) (length bytes-t) (length (stringBytes b))
+  byte-gap =
+      let z : byteGap s m .after ≡ length (stringBytes b) = omega (arith, bytes-before, bytes-inside, count-bytes) in
+      λ i. gap (bytes-before i) (bytes-inside i) (z i)
+
+  -- closed by these numbers, the strings' bytes are closed, and every column is
+  bytes-closed : closingBytes (byteGap s m) m ≡ inkedAt (length (stringBytes a)) (stringBytes b) m
+  bytes-closed = ap (λ (g : Gap). closingBytes g m) byte-gap ∙ ap (λ (l : List ℕ). inkedAt (length (stringBytes a)) l m) (changes.bytes-behind m a t b H)
+
+  columns : closed (textGap p m) s (valueGap s m) (byteGap s m) m
+      ≡ closeColumns perStatement (program a) (t .body) (program b) (closeColumns perText a (t ∷ []) b (inkedAt (length (stringBytes a)) (stringBytes b) m))
   unfolding closed
   columns =
-      (λ i. closed (text-gap i) (statement-gap i) (value-gap i) m)
+      (λ i. closing VALUES-AT (value-gap i) (closing NAMES-AT (fourfold (statement-gap i)) (closing HEADS-AT (statement-gap i) (closing TEXTS-AT (text-gap i) (bytes-closed i)))))
       ∙ sym (λ i. closing VALUES-AT (gap (length (values a)) (length values-t) (length (values b)))
       (closing NAMES-AT (gap (length-laid-names (program a) i) (length-laid-names (t .body) i) (length-laid-names (program b) i))
       (closing HEADS-AT (gap (length-laid-heads (program a) i) (length-laid-heads (t .body) i) (length-laid-heads (program b) i))
-      (closing TEXTS-AT (gap (length (flat word a)) (length (flat word (t ∷ []))) (length (flat word b))) m))))
+      (closing TEXTS-AT (gap (length (flat word a)) (length (flat word (t ∷ []))) (length (flat word b))) (inkedAt (length (stringBytes a)) (stringBytes b) m)))))
 
-  pub taken-out : takenOut p m ≡ put (a ++ b) m
+  pub taken-out : Words m → takenOut p m ≡ put (a ++ b) m
   unfolding takenOut
-  taken-out =
+  taken-out w =
       let x : left (textGap p m) ≡ length (a ++ b) = omega (arith, count-texts, length-append a b) in
       let y : left s ≡ length (program (a ++ b)) = omega (arith, before-statements, inside-statements, count-statements, ap length (program-append a b), length-append (program a) (program b)) in
       let z : left (valueGap s m) ≡ length (values (a ++ b)) = omega (arith, values-before, values-inside, count-values, ap length (values-append a b), length-append (values a) (values b)) in
-      (λ i. over 0 (x i ∷ y i ∷ z i ∷ []) (columns i)) ∙ changes.closed m a t b H
+      let u : left (byteGap s m) ≡ length (stringBytes (a ++ b)) =
+      omega (arith, bytes-before, bytes-inside, count-bytes, ap length (bytes-append a b), length-append (stringBytes a) (stringBytes b)) in
+      (λ i. over 0 (x i ∷ y i ∷ z i ∷ u i ∷ []) (columns i)) ∙ changes.closed m a t b H w

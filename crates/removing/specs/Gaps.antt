@@ -2,12 +2,14 @@
 use Prim.Native.Nat.{ℕ, _+_, _-_, _*_, _≤_, _<_}
 use mathlib.Core.Path.{_≡_}
 use mathlib.Core.List.{List, [], _∷_}
-use lib.ListN.{length, getD}
+use lib.ListN.{length, drop, getD}
 use Rattle.words.specs.Over.{over, part, moved}
 use Rattle.words.specs.Halves.{lower, sum}
-use Rattle.layout.specs.Limits.{TEXTS, STATEMENTS, VALUES, WORDS, NAMEWORDS, TEXTS-AT, HEADS-AT, NAMES-AT, VALUES-AT}
-use Rattle.layout.specs.Memory.{textCount, statementCount, valueCount}
-use Rattle.layout.specs.Damage.{Framed}
+use Rattle.octets.specs.Octets.{octets, inkedIn}
+use Rattle.names.specs.Names.{NAMEWORDS}
+use Rattle.layout.specs.Limits.{TEXTS, STATEMENTS, VALUES, BYTES, WORDS, BYTEWORDS, TEXTS-AT, HEADS-AT, NAMES-AT, VALUES-AT, BYTES-AT}
+use Rattle.layout.specs.Memory.{textCount, statementCount, valueCount, byteCount, valueWords}
+use Rattle.layout.specs.Damage.{Framed, totalBytes}
 use Rattle.removing.specs.declared.gap.Gap.{Gap}
 
 -- ---- the gap of the text at a place
@@ -39,6 +41,16 @@ valuesInside s m = sum (part (HEADS-AT + s .before) (s .inside) m)
 abbrev pub valueGap : Gap → List ℕ → Gap
 valueGap s m = record { before = valuesBefore s m; inside = valuesInside s m; after = valueCount m - valuesBefore s m - valuesInside s m }
 
+-- the bytes of the strings among them
+abbrev pub bytesBefore : Gap → List ℕ → ℕ
+bytesBefore s m = totalBytes (part HEADS-AT (s .before) m) (valueWords m)
+
+abbrev pub bytesInside : Gap → List ℕ → ℕ
+bytesInside s m = totalBytes (part (HEADS-AT + s .before) (s .inside) m) (drop (valuesBefore s m) (valueWords m))
+
+abbrev pub byteGap : Gap → List ℕ → Gap
+byteGap s m = record { before = bytesBefore s m; inside = bytesInside s m; after = byteCount m - bytesBefore s m - bytesInside s m }
+
 -- ---- closing it
 
 -- what stands after the gap is moved down to where it begins
@@ -53,9 +65,13 @@ fourfold g = record { before = NAMEWORDS * g .before; inside = NAMEWORDS * g .in
 abbrev pub left : Gap → ℕ
 left g = g .before + g .after
 
+-- among the bytes of strings
+abbrev pub closingBytes : Gap → List ℕ → List ℕ
+closingBytes g m = inkedIn BYTES-AT BYTEWORDS (g .before) (part (g .before + g .inside) (g .after) (octets (part BYTES-AT BYTEWORDS m))) m
+
 -- in every area
-unfoldable pub closed : (texts statements values : Gap) → List ℕ → List ℕ
-closed t s v m = closing VALUES-AT v (closing NAMES-AT (fourfold s) (closing HEADS-AT s (closing TEXTS-AT t m)))
+unfoldable pub closed : (texts statements values bytes : Gap) → List ℕ → List ℕ
+closed t s v b m = closing VALUES-AT v (closing NAMES-AT (fourfold s) (closing HEADS-AT s (closing TEXTS-AT t (closingBytes b m))))
 
 -- the memory without the text at a place: every area, and then the totals
 unfoldable pub takenOut : (place : ℕ) → List ℕ → List ℕ
@@ -64,7 +80,8 @@ takenOut place m =
     let t = textGap place m in
     let s = statementGap place m in
     let v = valueGap s m in
-    over 0 (left t ∷ left s ∷ left v ∷ []) (closed t s v m)
+    let b = byteGap s m in
+    over 0 (left t ∷ left s ∷ left v ∷ left b ∷ []) (closed t s v b m)
 
 -- ---- what the functions require: the gap lies within the totals
 
@@ -72,6 +89,7 @@ pub record Spanned (s : Gap) (m : List ℕ) : Type 0 where
   pub sizes : Framed m
   pub statements : s .before + s .inside ≤ statementCount m
   pub values : valuesBefore s m + valuesInside s m ≤ valueCount m
+  pub bytes : bytesBefore s m + bytesInside s m ≤ byteCount m
 
 pub record Gapped (place : ℕ) (m : List ℕ) : Type 0 where
   pub text : place < textCount m
@@ -81,8 +99,9 @@ pub record Gapped (place : ℕ) (m : List ℕ) : Type 0 where
 abbrev pub whole : Gap → ℕ
 whole g = g .before + g .inside + g .after
 
-pub record Closes (t s v : Gap) (m : List ℕ) : Type 0 where
+pub record Closes (t s v b : Gap) (m : List ℕ) : Type 0 where
   pub words : length m ≡ WORDS
   pub texts : whole t ≤ TEXTS
   pub statements : whole s ≤ STATEMENTS
   pub values : whole v ≤ VALUES
+  pub bytes : whole b ≤ BYTES

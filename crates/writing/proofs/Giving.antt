@@ -1,107 +1,156 @@
--- What a line gives to the statement opened last is written as it is read: a list's numbers, or one alone. Assumes nothing.
-use Prim.Native.Nat.{ℕ, suc, _+_, _≤_}
+-- What a line gives to the statement opened last is written as it is read: a list's values, or one alone. Assumes nothing.
+use Prim.Native.Nat.{ℕ, _+_}
 use native.Mathlib.Omega.{arith}
-use mathlib.Core.Path.{_≡_, refl, sym, ap, _∙_}
-use mathlib.Core.Bool.{Bool, true, false, _||_}
+use mathlib.Core.Path.{_≡_, ap, subst, _∙_}
+use mathlib.Core.Bool.{Bool, true, false}
 use mathlib.Core.List.{List, [], _∷_}
-use borrow.Author.Tests.{lt-ltb}
 use lib.Dec.{ltb}
-use lib.Ieee.{Float, binary64, toBits}
-use lib.ListN.{length}
+use lib.Ieee.{Float}
+use lib.ListN.{length, drop}
 use Rattle.plain.specs.Choice.{if_then_else_}
 use Rattle.plain.specs.Bytes.{OPEN}
 use Rattle.plain.specs.Runs.{past}
-use Rattle.text.specs.Classes.{blank, stands}
-use Rattle.text.specs.Values.{items, given, wrong, rest, some, listEnd, listed, valueAt, givenAt}
-use Rattle.text.specs.declared.faults.Fault.{Fault}
-use Rattle.text.specs.declared.faults.Fault.the-variants as F
-use Rattle.text.specs.declared.line.Reader.{Reader}
-use Rattle.text.specs.declared.line.Reader.the-variants as R
-use Rattle.text.specs.declared.values.Counted.{Counted}
-use Rattle.text.specs.declared.values.Stop.{Stop}
-use Rattle.text.specs.declared.values.Stop.the-variants as S
-use Rattle.text.specs.declared.values.Word.the-variants as W
-use Rattle.text.proofs.Bounds.{few-items}
-use Rattle.words.specs.Over.{over}
-use Rattle.writing.specs.Writing.{page, toldOn}
-use Rattle.writing.specs.Pens.{afterList, Stores, Gives}
-use Rattle.writing.specs.declared.pen.Pen.{Pen}
+use Rattle.value.specs.Classes.{blank, stands}
+use Rattle.value.specs.Strings.{undoubled}
+use Rattle.value.specs.Value.{Value, number, string, valueAt}
+use Rattle.statement.specs.Values.{items, given, wrong, rest, listEnd, listed, alone, givenAt}
+use Rattle.value.specs.declared.faults.Fault.{Fault}
+use Rattle.value.specs.declared.faults.Fault.the-variants as F
+use Rattle.statement.specs.declared.values.Reader.{Reader}
+use Rattle.statement.specs.declared.values.Reader.the-variants as R
+use Rattle.statement.specs.declared.values.Counted.{Counted}
+use Rattle.statement.specs.declared.values.Kind.{Kind}
+use Rattle.statement.specs.declared.values.Kind.the-variants as K
+use Rattle.statement.specs.declared.values.Stop.{Stop}
+use Rattle.statement.specs.declared.values.Stop.the-variants as S
+use Rattle.value.specs.declared.Word.{Word}
+use Rattle.value.specs.declared.Word.the-variants as W
+use Rattle.statement.proofs.Bounds.{few-items}
+use Rattle.page.specs.Writing.{Page, page, storedOn, storedAll, toldOn, anyString, givenOn}
+use Rattle.page.specs.Pens.{Tells, Stretches, isStrings}
+use Rattle.writing.specs.Pens.{Ready, afterList, Stores, Gives}
+use Rattle.page.specs.declared.pen.Pen.{Pen}
+use Rattle.writing.specs.declared.give.Stored.{Stored}
+use Rattle.writing.proofs.SameKind.{OneKind, one-value, taking-one, told-kind, taking-items}
+use Rattle.page.proofs.Pages.{stored-heads}
 
--- ---- how a list ends in a line
+-- ---- how the values end in a line
 
--- these numbers are given, and this reader follows
-record Ends (ys xs : List Float) (r s : Reader) : Type 0 where
-  numbers : ys ≡ xs
+-- these values are given, and this reader follows
+record Ends (ws vs : List Value) (r s : Reader) : Type 0 where
+  values : ws ≡ vs
   reader : r ≡ s
 
-some-counted : (xs : List Float) → some xs ≡ ltb 0 (length xs)
-some-counted [] = refl
-some-counted (x ∷ xs) = sym (lt-ltb 0 (suc (length xs)) (omega arith))
-
-rest-given : (ys : List Float) (line : List ℕ) (i : ℕ) (s : Reader) (xs : List Float) → rest ys line i ≡ given s xs → Ends ys xs R.Data s
+rest-given : (ws : List Value) (line : List ℕ) (i : ℕ) (s : Reader) (vs : List Value) → rest ws line i ≡ given s vs → Ends ws vs R.Data s
 unfolding rest
-rest-given ys line i s xs = by (ltb (past blank line i) (length line))
+rest-given ws line i s vs = by (ltb (past blank line i) (length line))
   where
-    by : (b : Bool) → (if b then wrong F.RestOfLine (past blank line i) else given R.Data ys) ≡ given s xs → Ends ys xs R.Data s
+    by : (b : Bool) → (if b then wrong F.RestOfLine (past blank line i) else given R.Data ws) ≡ given s vs → Ends ws vs R.Data s
     by true e = let z : _≡_ {A = ℕ} 0 1 = cc in absurd (omega arith)
-    by false e = record { numbers = cc; reader = cc }
+    by false e = record { values = cc; reader = cc }
 
-end-given : (filled : Bool) (ys : List Float) (line : List ℕ) (t : Stop) (s : Reader) (xs : List Float)
-    → listEnd filled ys line t ≡ given s xs → Ends ys xs (afterList filled (length ys) t) s
-end-given filled ys line S.End s xs e =
-    let p : ys ≡ xs = cc in
-    let q : (if filled || some ys then R.Filled else R.Open) ≡ s = cc in
-    record { numbers = p; reader = rw (sym (some-counted ys)) q }
-end-given filled ys line (S.Close k) s xs e = by (filled || some ys) e
+end-given : (kind : Kind) (ws : List Value) (line : List ℕ) (t : Stop) (s : Reader) (vs : List Value) → listEnd kind ws line t ≡ given s vs → Ends ws vs (afterList kind t) s
+end-given kind ws line S.End s vs e = record { values = cc; reader = cc }
+end-given kind ws line (S.Fault q k) s vs e = let z : _≡_ {A = ℕ} 0 1 = cc in absurd (omega arith)
+end-given K.Empty ws line (S.Close k) s vs e = let z : _≡_ {A = ℕ} 0 1 = cc in absurd (omega arith)
+end-given K.Numbers ws line (S.Close k) s vs e = rest-given ws line (k + 1) s vs e
+end-given K.Strings ws line (S.Close k) s vs e = rest-given ws line (k + 1) s vs e
+
+module _ (kind : Kind) (line : List ℕ) (i : ℕ) (s : Reader) (vs : List Value) where
+  list-given : listed kind line i ≡ given s vs → Ends (items kind line i .values) vs (afterList (items kind line i .kind) (items kind line i .stop)) s
+  unfolding listed
+  list-given e = end-given (items kind line i .kind) (items kind line i .values) line (items kind line i .stop) s vs e
+
+  -- a list's values are of one kind
+  pub list-one : listed kind line i ≡ given s vs → OneKind vs
+  list-one e = subst OneKind (list-given e .values) (taking-one kind (items kind line i .kind) (items kind line i .values) (taking-items (length line) line kind i))
+
+-- and so are those that follow the operator
+pub given-one : (line : List ℕ) (i : ℕ) (s : Reader) (vs : List Value) → givenAt line i ≡ given s vs → OneKind vs
+unfolding givenAt
+given-one line i s vs e = by (stands OPEN line i) (valueAt line i) e
   where
-    by : (b : Bool) → (if b then rest ys line (k + 1) else wrong F.OpenList k) ≡ given s xs → Ends ys xs R.Data s
-    by true e = rest-given ys line (k + 1) s xs e
-    by false e = let z : _≡_ {A = ℕ} 0 1 = cc in absurd (omega arith)
-end-given filled ys line (S.Fault q k) s xs e = let z : _≡_ {A = ℕ} 0 1 = cc in absurd (omega arith)
+    by : (b : Bool) (w : Word) → (if b then listed K.Empty line (i + 1) else alone line w) ≡ given s vs → OneKind vs
+    by true w e = list-one K.Empty line (i + 1) s vs e
+    by false (W.Number x k) e = subst OneKind (rest-given (number x ∷ []) line k s vs e .values) (one-value (number x))
+    by false (W.String j n k) e = subst OneKind (rest-given (string (undoubled (drop j line)) ∷ []) line k s vs e .values) (one-value (string (undoubled (drop j line))))
+    by false (W.Fault q k) e = let z : _≡_ {A = ℕ} 0 1 = cc in absurd (omega arith)
 
-list-given : (filled : Bool) (line : List ℕ) (i : ℕ) (s : Reader) (xs : List Float)
-    → listed filled line i ≡ given s xs → Ends (items line i .numbers) xs (afterList filled (length (items line i .numbers)) (items line i .stop)) s
-unfolding listed
-list-given filled line i s xs e = end-given filled (items line i .numbers) line (items line i .stop) s xs e
+-- ---- what is stored can be told
+
+pub ready-stretches : (line : List ℕ) (pen : Pen) → Ready pen line → Stretches pen
+ready-stretches line pen r = record { values = omega (arith, r .storable .values); bytes = omega (arith, r .storable .bytes) }
+
+pub one-tells : (line : List ℕ) (pen pen′ : Pen) (m : List ℕ) (p : Page) → Ready pen line → page m pen′ ≡ p → p .pen .heads ≡ pen .heads → p .pen .head ≡ pen .head → Tells pen′ 1
+one-tells line pen pen′ m p r e h k = record {
+  some = omega (arith, r .some, ap (λ (q : Page). q .pen .heads) e, h);
+  head = omega (arith, r .head, ap (λ (q : Page). q .pen .head) e, k);
+  few = omega arith;
+}
+
+-- no more values than the line has bytes
+pub list-tells : (line : List ℕ) (pen : Pen) (m m′ : List ℕ) (kind : Kind) (from : ℕ) (r : Stored) → Ready pen line → Stores kind line from (page m pen) r m′ → Tells (r .pen) (r .counted .given)
+list-tells line pen m m′ kind from r d f =
+    let is = items kind line from in
+    let h = stored-heads (is .values) (page m pen) in
+    let e : r .counted .given ≡ length (is .values) = ap (λ (x : Counted). x .given) (f .count) in
+    record {
+      some = omega (arith, d .some, ap (λ (q : Page). q .pen .heads) (f .left), h .0);
+      head = omega (arith, d .head, ap (λ (q : Page). q .pen .head) (f .left), h .1);
+      few = omega (arith, e, few-items (length line) line kind from, d .storable .long);
+    }
 
 -- ---- what is written of it
 
--- no more numbers than the line has bytes
-pub stored-few : (line : List ℕ) (from at : ℕ) (before : List ℕ) (c : Counted) (mid : List ℕ) → Stores line from at before c mid → c .numbers ≤ length line
-stored-few line from at before c mid f =
-    let e : c .numbers ≡ length (items line from .numbers) = ap (λ (x : Counted). x .numbers) (f .count) in
-    omega (arith, few-items (length line) line from)
-
 module _ (line : List ℕ) (pen told : Pen) (before mid after : List ℕ) where
   -- a list
-  pub list-turns : (from : ℕ) (filled : Bool) (c : Counted) (r : Reader)
-      → Stores line from (pen .values) before c mid → page after told ≡ toldOn (c .numbers) (page mid pen) → r ≡ afterList filled (c .numbers) (c .stop)
-      → Gives (listed filled line from) (page before pen) after (record { pen = told; reader = r })
-  list-turns from filled c r f p q s xs e =
-      let g = list-given filled line from s xs e in
-      let n : c .numbers ≡ length (items line from .numbers) = ap (λ (x : Counted). x .numbers) (f .count) in
-      record { left = p ∙ rw (f .memory, n, g .numbers); reader = q ∙ rw (f .count) (g .reader) }
+  pub list-turns : (kind : Kind) (from : ℕ) (st : Stored) (r : Reader)
+      → Stores kind line from (page before pen) st mid → page after told ≡ toldOn (isStrings (st .counted .kind)) (st .counted .given) (page mid (st .pen))
+      → r ≡ afterList (st .counted .kind) (st .counted .stop)
+      → Gives (listed kind line from) (page before pen) after (record { pen = told; reader = r })
+  list-turns kind from st r f p q s vs e =
+      let is = items kind line from in
+      let g = list-given kind line from s vs e in
+      record {
+        left =
+            p
+            ∙ (λ i. toldOn (isStrings (f .count i .kind)) (f .count i .given) (f .left i))
+            ∙ told-kind kind (is .kind) (is .values) (storedAll (is .values) (page before pen)) (taking-items (length line) line kind from)
+            ∙ ap (λ (us : List Value). givenOn us (page before pen)) (g .values);
+        reader = q ∙ (λ i. afterList (f .count i .kind) (f .count i .stop)) ∙ g .reader;
+      }
 
-  -- one number alone
-  pub value-turns : (i : ℕ) (x : Float) (k : ℕ) → stands OPEN line i ≡ false → valueAt line i ≡ W.Number x k
-      → mid ≡ over (pen .values) (toBits binary64 x ∷ []) before → page after told ≡ toldOn 1 (page mid pen)
+  -- one value alone
+  alone-turns : (stored : Pen) (i : ℕ) (v : Value) (k : ℕ) → ((s : Reader) (vs : List Value) → givenAt line i ≡ given s vs → rest (v ∷ []) line k ≡ given s vs)
+      → page mid stored ≡ storedOn v (page before pen) → page after told ≡ toldOn (anyString (v ∷ [])) 1 (page mid stored)
+      → Gives (givenAt line i) (page before pen) after (record { pen = told; reader = R.Data })
+  unfolding storedAll
+  alone-turns stored i v k f w p s vs e =
+      let g = rest-given (v ∷ []) line k s vs (f s vs e) in
+      record { left = p ∙ ap (toldOn (anyString (v ∷ [])) 1) w ∙ ap (λ (us : List Value). givenOn us (page before pen)) (g .values); reader = g .reader }
+
+  pub number-turns : (stored : Pen) (i k : ℕ) (x : Float) → stands OPEN line i ≡ false → valueAt line i ≡ W.Number x k
+      → page mid stored ≡ storedOn (number x) (page before pen) → page after told ≡ toldOn false 1 (page mid stored)
       → Gives (givenAt line i) (page before pen) after (record { pen = told; reader = R.Data })
   unfolding givenAt
-  value-turns i x k o v w p s xs e =
-      let a : rest (x ∷ []) line k ≡ given s xs = rw (o, v) at e in
-      let g = rest-given (x ∷ []) line k s xs a in
-      record { left = p ∙ rw (w, sym (g .numbers)); reader = g .reader }
+  number-turns stored i k x o v w p = alone-turns stored i (number x) k (λ s vs e. rw (o, v) at e) w p
+
+  pub string-turns : (stored : Pen) (i j n k : ℕ) → stands OPEN line i ≡ false → valueAt line i ≡ W.String j n k
+      → page mid stored ≡ storedOn (string (undoubled (drop j line))) (page before pen) → page after told ≡ toldOn true 1 (page mid stored)
+      → Gives (givenAt line i) (page before pen) after (record { pen = told; reader = R.Data })
+  unfolding givenAt
+  string-turns stored i j n k o v w p = alone-turns stored i (string (undoubled (drop j line))) k (λ s vs e. rw (o, v) at e) w p
 
 -- the values of a line that has a `(`
-pub at-bracket : (line : List ℕ) (i : ℕ) (s : Reader) (xs : List Float) → stands OPEN line i ≡ true → givenAt line i ≡ given s xs → listed false line (i + 1) ≡ given s xs
+pub at-bracket : (line : List ℕ) (i : ℕ) (s : Reader) (vs : List Value) → stands OPEN line i ≡ true → givenAt line i ≡ given s vs → listed K.Empty line (i + 1) ≡ given s vs
 unfolding givenAt
-at-bracket line i s xs o e = rw o at e
+at-bracket line i s vs o e = rw o at e
 
 -- no value stands there
-pub no-value : {X : Type 0} (line : List ℕ) (i : ℕ) (q : Fault) (k : ℕ) (s : Reader) (xs : List Float)
-    → stands OPEN line i ≡ false → valueAt line i ≡ W.Fault q k → givenAt line i ≡ given s xs → X
+pub no-value : {X : Type 0} (line : List ℕ) (i : ℕ) (q : Fault) (k : ℕ) (s : Reader) (vs : List Value)
+    → stands OPEN line i ≡ false → valueAt line i ≡ W.Fault q k → givenAt line i ≡ given s vs → X
 unfolding givenAt
-no-value line i q k s xs o v e =
-    let a : wrong q k ≡ given s xs = rw (o, v) at e in
+no-value line i q k s vs o v e =
+    let a : wrong q k ≡ given s vs = rw (o, v) at e in
     let z : _≡_ {A = ℕ} 0 1 = cc in
     absurd (omega arith)

@@ -7,18 +7,19 @@ use lib.ListN.{length, take, drop, length-drop, drop-of-length-le}
 use lib.Seq.{length-take-le}
 use Rattle.text.specs.Lines.{lines, Cuts}
 use Rattle.text.specs.Line.{Outcome, next, fault, answered}
-use Rattle.text.specs.Statements.{Event, openings, givings}
-use Rattle.text.specs.Text.{Read, fine, refused, finished, preceded, then, readFrom, readText, added}
-use Rattle.text.specs.declared.line.Reader.{Reader}
-use Rattle.text.specs.declared.line.Reader.the-variants as R
+use Rattle.statement.specs.Statements.{Event, openings, givings, bytesGiven}
+use Rattle.text.specs.Text.{Read, fine, refused, finished, preceded, continued, readFrom, readText, added}
+use Rattle.statement.specs.declared.values.Reader.{Reader}
+use Rattle.statement.specs.declared.values.Reader.the-variants as R
 use Rattle.text.specs.declared.lines.Cut.{Cut}
-use Rattle.text.proofs.Events.{openings-append, givings-append}
+use Rattle.statement.proofs.Events.{openings-append, givings-append, bytesGiven-append}
 use Rattle.layout.specs.Limits.{LONGEST-LOAD}
-use Rattle.writing.specs.Writing.{Page, page, writtenOn}
-use Rattle.writing.specs.Pens.{Room, Roomy, Admits, Writes}
-use Rattle.writing.specs.declared.pen.Pen.{Pen}
-use Rattle.writing.specs.declared.pen.Turn.{Turn}
-use Rattle.writing.proofs.Pages.{written-append, written-room}
+use Rattle.page.specs.Writing.{Page, page, writtenOn}
+use Rattle.page.specs.Pens.{Room}
+use Rattle.writing.specs.Pens.{Roomy, Admits, Writes}
+use Rattle.page.specs.declared.pen.Pen.{Pen}
+use Rattle.writing.specs.declared.give.Turn.{Turn}
+use Rattle.page.proofs.Pages.{written-append, written-room}
 
 -- ---- a line of an admitted text, and the lines after it
 
@@ -35,15 +36,14 @@ preceding : (r : Reader) (fs : List Event) (more : Reader → Read) (x : Read) (
 preceding r fs more (fine gs) es q e = record { reader = r; first = fs; rest = gs; outcome = refl; reads = q; events = cc }
 preceding r fs more (refused w n k) es q e = let z : _≡_ {A = ℕ} 0 1 = cc in absurd (omega arith)
 
-pub then-fine : (o : Outcome) (number : ℕ) (more : Reader → Read) (es : List Event) → then o number more ≡ fine es → Goes o more es
+pub then-fine : (o : Outcome) (number : ℕ) (more : Reader → Read) (es : List Event) → continued o number more ≡ fine es → Goes o more es
 then-fine (next r fs) number more es e = preceding r fs more (more r) es refl e
 then-fine (fault q k) number more es e = let z : _≡_ {A = ℕ} 0 1 = cc in absurd (omega arith)
 
 finished-fine : (r : Reader) (number long : ℕ) (es : List Event) → finished r number long ≡ fine es → es ≡ []
 finished-fine R.Text number long es e = cc
 finished-fine R.Data number long es e = cc
-finished-fine R.Open number long es e = let z : _≡_ {A = ℕ} 0 1 = cc in absurd (omega arith)
-finished-fine R.Filled number long es e = let z : _≡_ {A = ℕ} 0 1 = cc in absurd (omega arith)
+finished-fine (R.List k) number long es e = let z : _≡_ {A = ℕ} 0 1 = cc in absurd (omega arith)
 
 -- ---- the loop
 
@@ -53,7 +53,7 @@ pub record Passes (text : List ℕ) (final : Page) (long : ℕ) (at : ℕ) (m : 
   pub events : List Event
   pub reads : readFrom r number last (lines (drop at text)) ≡ fine events
   pub written : writtenOn events (page m pen) ≡ final
-  pub room : Room pen (openings events) (givings events)
+  pub room : Room pen (openings events) (givings events) (bytesGiven events)
   pub stays : at ≤ length text + 1
   pub keeps : length m ≡ long
 
@@ -86,7 +86,11 @@ module _ (text : List ℕ) (final : Page) (long at : ℕ) (m : List ℕ) (pen : 
     roomy h =
         let d = f .room in
         record {
-          ready = record { some = d .some; values = omega (arith, d .values); head = omega (arith, d .head, d .values); long = omega (arith, line-long) };
+          ready = record {
+            some = d .some;
+            head = d .head .tag;
+            storable = record { values = omega (arith, d .values); bytes = omega (arith, d .bytes); long = omega (arith, line-long) };
+          };
           apart = omega (arith, d .heads);
           names = omega (arith, d .names);
         }
@@ -98,19 +102,21 @@ module _ (text : List ℕ) (final : Page) (long at : ℕ) (m : List ℕ) (pen : 
     one-more m′ t k w =
         let l = take (c .end - at) (drop at text) in
         let more : Reader → Read = λ s. readFrom s (f .number + 1) (length l) (lines (drop (c .next) text)) in
-        let e : then (answered r l) (f .number + 1) more ≡ fine (f .events) = rw (cuts .line) at (f .reads) in
+        let e : continued (answered r l) (f .number + 1) more ≡ fine (f .events) = rw (cuts .line) at (f .reads) in
         let g = then-fine (answered r l) (f .number + 1) more (f .events) e in
         let u = w (g .reader) (g .first) (g .outcome) in
         let o : openings (f .events) ≡ openings (g .first) + openings (g .rest) = ap openings (sym (g .events)) ∙ openings-append (g .first) (g .rest) in
         let v : givings (f .events) ≡ givings (g .first) + givings (g .rest) = ap givings (sym (g .events)) ∙ givings-append (g .first) (g .rest) in
-        let d : Room pen (openings (g .first) + openings (g .rest)) (givings (g .first) + givings (g .rest)) = rw (o, v) at (f .room) in
+        let x : bytesGiven (f .events) ≡ bytesGiven (g .first) + bytesGiven (g .rest) = ap bytesGiven (sym (g .events)) ∙ bytesGiven-append (g .first) (g .rest) in
+        let d : Room pen (openings (g .first) + openings (g .rest)) (givings (g .first) + givings (g .rest)) (bytesGiven (g .first) + bytesGiven (g .rest)) = rw (o, v, x) at (f .room) in
+        let room = written-room (g .first) (page m pen) (openings (g .rest)) (givings (g .rest)) (bytesGiven (g .rest)) d in
         record {
           number = f .number + 1;
           last = length l;
           events = g .rest;
           reads = rw (u .reader) (g .reads);
           written = ap (writtenOn (g .rest)) (u .left) ∙ sym (written-append (g .first) (g .rest) (page m pen)) ∙ ap (λ (es : List Event). writtenOn es (page m pen)) (g .events) ∙ f .written;
-          room = subst (λ (p : Page). Room (p .pen) (openings (g .rest)) (givings (g .rest))) (sym (u .left)) (written-room (g .first) (page m pen) (openings (g .rest)) (givings (g .rest)) d);
+          room = subst (λ (p : Page). Room (p .pen) (openings (g .rest)) (givings (g .rest)) (bytesGiven (g .rest))) (sym (u .left)) room;
           stays = cuts .stays;
           keeps = k ∙ f .keeps;
         }

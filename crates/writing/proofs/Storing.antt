@@ -1,78 +1,98 @@
--- A list's numbers are stored one at a time: what is left to store onto this memory is what was to be stored onto the first. Assumes nothing.
-use Prim.Native.Nat.{ℕ, suc, _+_, _-_, _<_}
+-- A list's values are stored one at a time: what is left to store onto this page is what was to be stored onto the first. Assumes nothing.
+use Prim.Native.Nat.{ℕ, suc, _+_, _*_, _-_, _≤_, _<_}
 use native.Mathlib.Nat.{zero-add, add-zero}
 use native.Mathlib.Omega.{arith}
-use mathlib.Core.Path.{_≡_, refl, sym, ap, _∙_}
-use mathlib.Core.List.{List, [], _∷_}
-use lib.Ieee.{Float, binary64, toBits}
+use mathlib.Core.Path.{_≡_, refl, sym, ap, subst, _∙_}
+use mathlib.Core.List.{List}
 use lib.ListN.{length}
-use Rattle.text.specs.Values.{item, Items, ended, itemsUpTo, items, tally}
-use Rattle.text.specs.declared.faults.Fault.{Fault}
-use Rattle.text.specs.declared.values.Item.{Item}
-use Rattle.text.specs.declared.values.Item.the-variants as I
-use Rattle.text.specs.declared.values.Stop.{Stop}
-use Rattle.text.specs.declared.values.Stop.the-variants as S
-use Rattle.text.proofs.Items.{withItems, none-yet, turn}
-use Rattle.words.specs.Over.{over}
-use Rattle.words.proofs.Over.{over-nil, over-append, length-over}
-use Rattle.writing.specs.Writing.{bits}
-use Rattle.writing.specs.Pens.{Stores}
+use Rattle.value.specs.Strings.{STRING}
+use Rattle.value.specs.Value.{Value, bytesIn}
+use Rattle.statement.specs.Values.{bytesInAll, item, Items, ended, further, itemsUpTo, items, tally}
+use Rattle.statement.specs.Values as values
+use Rattle.statement.specs.declared.values.Item.{Item}
+use Rattle.statement.specs.declared.values.Kind.{Kind}
+use Rattle.statement.specs.declared.values.Stop.{Stop}
+use Rattle.statement.specs.declared.values.Stop.the-variants as S
+use Rattle.value.proofs.Found.{StringRead}
+use Rattle.statement.proofs.Items.{withItems, none-yet, turn}
+use Rattle.layout.specs.Limits.{BYTES-AT, BYTES, LONGEST-LOAD}
+use Rattle.page.specs.Writing.{Page, page, storedOn, storedAll}
+use Rattle.page.specs.Pens.{Stretches, Quoted}
+use Rattle.writing.specs.Pens.{Storable, Stores, stopped}
+use Rattle.page.specs.declared.pen.Pen.{Pen}
+use Rattle.writing.specs.declared.give.Stored.{Stored}
+use Rattle.page.proofs.Pages.{stored-values, stored-bytes}
+
+-- a string that is read opens in its line
+pub quoted : (line : List ℕ) (s n k : ℕ) → StringRead line s n k → Quoted line s n
+quoted line s n k r = record { inside = omega (arith, r .takes, r .stays); bytes = r .bytes; short = r .short }
 
 -- ---- the items that are left, by the next one
 
-pub none-left : (line : List ℕ) (i left : ℕ) → left ≡ 0 → itemsUpTo left line i ≡ ended S.End
+pub none-left : (line : List ℕ) (kind : Kind) (i left : ℕ) → left ≡ 0 → itemsUpTo left line kind i ≡ ended kind S.End
 unfolding itemsUpTo
-none-left line i left e = rw e
+none-left line kind i left e = rw e
 
-module _ (line : List ℕ) (i left : ℕ) (h : 0 < left) (next : Item) (e : next ≡ item line i) where
-  pub at-end : next ≡ I.End → itemsUpTo left line i ≡ ended S.End
-  at-end q = rw (turn line i left h, sym e, q)
-
-  pub at-close : (k : ℕ) → next ≡ I.Close k → itemsUpTo left line i ≡ ended (S.Close k)
-  at-close k q = rw (turn line i left h, sym e, q)
-
-  pub at-fault : (w : Fault) (k : ℕ) → next ≡ I.Fault w k → itemsUpTo left line i ≡ ended (S.Fault w k)
-  at-fault w k q = rw (turn line i left h, sym e, q)
-
-  pub at-number : (x : Float) (k : ℕ) → next ≡ I.Number x k
-      → itemsUpTo left line i ≡ record { numbers = x ∷ itemsUpTo (left - 1) line k .numbers; stop = itemsUpTo (left - 1) line k .stop }
-  at-number x k q = rw (turn line i left h, sym e, q)
+pub next-left : (line : List ℕ) (kind : Kind) (i left : ℕ) → 0 < left → (next : Item) → next ≡ item kind line i → (known : Item) → next ≡ known
+    → itemsUpTo left line kind i ≡ further kind line known (itemsUpTo (left - 1) line)
+next-left line kind i left h next e known q = turn line kind i left h ∙ ap (λ (m : Item). further kind line m (itemsUpTo (left - 1) line)) (sym e ∙ q)
 
 -- ---- the loop
 
--- after n numbers of those from place `from` on, the next one looked for at i among at most `left`
-pub record Storing (line : List ℕ) (from at : ℕ) (before : List ℕ) (i n left : ℕ) (m : List ℕ) : Type 0 where
-  pub few : n + left ≡ length line
-  pub count : withItems n (itemsUpTo left line i) ≡ tally (items line from)
-  pub memory : over (at + n) (bits (itemsUpTo left line i .numbers)) m ≡ over at (bits (items line from .numbers)) before
-  pub long : length m ≡ length before
+-- after so many values with so many bytes, the next value looked for at i among at most `left`, the list having `kind`
+pub record Storing (first : Kind) (line : List ℕ) (from : ℕ) (start : Page) (pen : Pen) (kind : Kind) (i given bytes left : ℕ) (m : List ℕ) : Type 0 where
+  pub few : given + left ≡ length line
+  pub count : withItems given bytes (itemsUpTo left line kind i) ≡ tally (items first line from)
+  pub leaves : storedAll (itemsUpTo left line kind i .values) (page m pen) ≡ storedAll (items first line from .values) start
+  pub values : pen .values ≤ BYTES-AT + given
+  pub strings : pen .bytes ≤ BYTES + STRING * given
+  pub short : bytes ≤ STRING * given
+  pub long : length m ≡ length (start .memory)
 
-module _ (line : List ℕ) (from at : ℕ) (before : List ℕ) where
-  pub at-first : Storing line from at before from 0 (length line) before
-  at-first = record { few = zero-add (length line); count = none-yet (items line from); memory = rw (add-zero at); long = refl }
+module _ (first : Kind) (line : List ℕ) (from : ℕ) where
+  pub at-first : (m : List ℕ) (pen : Pen) → Storable pen line → Storing first line from (page m pen) pen first from 0 0 (length line) m
+  at-first m pen s = record {
+    few = zero-add (length line);
+    count = none-yet (items first line from);
+    leaves = refl;
+    values = omega (arith, s .values);
+    strings = omega (arith, s .bytes);
+    short = omega arith;
+    long = refl;
+  }
 
-  module _ (i n left : ℕ) (m : List ℕ) (f : Storing line from at before i n left m) where
-    pub at-last : (s : Stop) → itemsUpTo left line i ≡ ended s → Stores line from at before (record { numbers = n; stop = s }) m
-    at-last s e =
-        let z : withItems n (ended s) ≡ record { numbers = n; stop = s } = rw (add-zero n) in
-        let c : withItems n (ended s) ≡ tally (items line from) = rw e at (f .count) in
-        let p : over (at + n) [] m ≡ over at (bits (items line from .numbers)) before = rw e at (f .memory) in
-        record { count = sym z ∙ c; memory = sym (over-nil (at + n) m) ∙ p }
+  module _ (start : Page) (pen : Pen) (kind : Kind) (i given bytes left : ℕ) (m : List ℕ) (f : Storing first line from start pen kind i given bytes left m) where
+    -- one value more can be stored
+    pub stretches : length line ≤ LONGEST-LOAD → Stretches pen
+    stretches h = record { values = omega (arith, f .values, f .few); bytes = omega (arith, f .strings, f .few) }
 
-    pub one-more : (x : Float) (k : ℕ) (m′ : List ℕ) → 0 < left
-        → itemsUpTo left line i ≡ record { numbers = x ∷ itemsUpTo (left - 1) line k .numbers; stop = itemsUpTo (left - 1) line k .stop }
-        → m′ ≡ over (at + n) (toBits binary64 x ∷ []) m
-        → Storing line from at before k (n + 1) (left - 1) m′
-    one-more x k m′ h e w =
-        let is = itemsUpTo (left - 1) line k in
-        let js : Items = record { numbers = x ∷ is .numbers; stop = is .stop } in
-        let z : n + 1 + length (is .numbers) ≡ n + suc (length (is .numbers)) = omega arith in
-        let y : at + n + 1 ≡ at + (n + 1) = omega arith in
-        let c : withItems n js ≡ tally (items line from) = rw e at (f .count) in
-        let p : over (at + n) (bits (js .numbers)) m ≡ over at (bits (items line from .numbers)) before = rw e at (f .memory) in
+    pub at-last : (s : Stop) → itemsUpTo left line kind i ≡ ended kind s → (r : Stored) → r ≡ stopped pen kind given bytes s → Stores first line from start r m
+    unfolding storedAll
+    at-last s e r q =
+        let z : withItems given bytes (ended kind s) ≡ record { kind = kind; given = given; bytes = bytes; stop = s } = rw (add-zero given, add-zero bytes) in
+        let c : withItems given bytes (ended kind s) ≡ tally (items first line from) = rw e at (f .count) in
+        let p : page m pen ≡ storedAll (items first line from .values) start = rw e at (f .leaves) in
+        subst (λ (x : Stored). Stores first line from start x m) (sym q) (record { count = sym z ∙ c; left = p })
+
+    -- a value is stored, and after it the list has kind d
+    pub one-more : (v : Value) (d : Kind) (k : ℕ) → 0 < left → itemsUpTo left line kind i ≡ values.withValue v (itemsUpTo (left - 1) line d k)
+        → (t : ℕ) → t ≡ bytes + bytesIn v → bytesIn v ≤ STRING
+        → (m′ : List ℕ) (pen′ : Pen) → page m′ pen′ ≡ storedOn v (page m pen) → length m′ ≡ length m
+        → Storing first line from start pen′ d k (given + 1) t (left - 1) m′
+    unfolding storedAll
+    one-more v d k h e t b s m′ pen′ p l =
+        let is = itemsUpTo (left - 1) line d k in
+        let z : given + 1 + length (is .values) ≡ given + suc (length (is .values)) = omega arith in
+        let y : t + bytesInAll (is .values) ≡ bytes + (bytesIn v + bytesInAll (is .values)) = omega (arith, b) in
+        let c : withItems (given + 1) t is ≡ withItems given bytes (values.withValue v is) = λ i. record { kind = is .kind; given = z i; bytes = y i; stop = is .stop } in
+        let nv : pen′ .values ≡ pen .values + 1 = ap (λ (q : Page). q .pen .values) p ∙ stored-values v (page m pen) in
+        let nb : pen′ .bytes ≡ pen .bytes + bytesIn v = ap (λ (q : Page). q .pen .bytes) p ∙ stored-bytes v (page m pen) in
         record {
           few = omega (arith, f .few);
-          count = rw z c;
-          memory = rw (w, sym y) (sym (over-append (at + n) (toBits binary64 x ∷ []) (bits (is .numbers)) m) ∙ p);
-          long = ap length w ∙ length-over (at + n) (toBits binary64 x ∷ []) m ∙ f .long;
+          count = c ∙ sym (ap (withItems given bytes) e) ∙ f .count;
+          leaves = ap (storedAll (is .values)) p ∙ sym (ap (λ (x : Items). storedAll (x .values) (page m pen)) e) ∙ f .leaves;
+          values = omega (arith, f .values, nv);
+          strings = omega (arith, f .strings, nb, s);
+          short = omega (arith, f .short, b, s);
+          long = l ∙ f .long;
         }

@@ -1,25 +1,27 @@
 // The second pass of a load: a text that was admitted is read again by the same scanner, and written behind what is held.
+use crate::give::Turn;
 use crate::give::give_list;
 use crate::give::give_values;
-use crate::pen::Pen;
-use crate::pen::Turn;
-use crate::pen::open_statement;
+use page::pen::Pen;
+use page::pen::open_statement;
+use statement::head::Head;
+use statement::head::read_head;
+use statement::values::Reader;
 use text::delimiters::Mark;
 use text::delimiters::read_mark;
-use text::line::Reader;
 use text::lines::cut_line;
-use text::statements::Head;
-use text::statements::read_head;
 ghost use mathlib.Core.Path.{_≡_};
-ghost use Rattle.text.specs.Statements.{head};
+ghost use lib.ListN.{length};
+ghost use Rattle.statement.specs.Head.{head};
 ghost use Rattle.text.specs.Line.{stated, plain, answered};
 ghost use Rattle.text.specs.Text.{readText, added};
-ghost use Rattle.writing.specs.Writing.{page, writtenOn};
+ghost use Rattle.layout.specs.Limits.{WORDS};
+ghost use Rattle.page.specs.Writing.{page, writtenOn};
 ghost use Rattle.writing.specs.Pens.{Admits, Roomy, Writes};
 
 // All lines of an admitted text.
 pub fn write_text(m: &mut [u64], pen: Pen, text: &[u8]) -> Pen
-    requires { ⌜ Admits (now text) pen ⌝ }
+    requires { ⌜ (length (now m) ≡ WORDS) × (Admits (now text) pen) ⌝ }
     ensures { λ r. ⌜ page (now (m .exit)) r ≡ writtenOn (added (readText (now (text .entry)))) (page (now (m .entry)) pen) ⌝ }
 {
     let mut at = 0;
@@ -40,7 +42,7 @@ pub fn write_text(m: &mut [u64], pen: Pen, text: &[u8]) -> Pen
 
 // A line of an admitted text.
 fn write_line(m: &mut [u64], pen: Pen, reader: Reader, line: &[u8]) -> Turn
-    requires { ⌜ Roomy pen (now line) ⌝ }
+    requires { ⌜ (length (now m) ≡ WORDS) × (Roomy pen (now line)) ⌝ }
     ensures { λ r. ⌜ Writes (answered reader (now (line .entry))) (page (now (m .entry)) pen) (now (m .exit)) r ⌝ }
 {
     let mark = read_mark(line);
@@ -59,7 +61,7 @@ fn write_line(m: &mut [u64], pen: Pen, reader: Reader, line: &[u8]) -> Turn
 
 // A line that is no delimiter.
 fn write_plain(m: &mut [u64], pen: Pen, reader: Reader, line: &[u8]) -> Turn
-    requires { ⌜ Roomy pen (now line) ⌝ }
+    requires { ⌜ (length (now m) ≡ WORDS) × (Roomy pen (now line)) ⌝ }
     ensures { λ r. ⌜ Writes (plain reader (now (line .entry))) (page (now (m .entry)) pen) (now (m .exit)) r ⌝ }
 {
     match reader {
@@ -68,14 +70,13 @@ fn write_plain(m: &mut [u64], pen: Pen, reader: Reader, line: &[u8]) -> Turn
             reader: Reader::Text,
         },
         Reader::Data => write_statement(m, pen, line),
-        Reader::Open => give_list(m, pen, false, line, 0),
-        Reader::Filled => give_list(m, pen, true, line, 0),
+        Reader::List(kind) => give_list(m, pen, kind, line, 0),
     }
 }
 
 // A data line outside a list: a statement, or blanks.
 fn write_statement(m: &mut [u64], pen: Pen, line: &[u8]) -> Turn
-    requires { ⌜ Roomy pen (now line) ⌝ }
+    requires { ⌜ (length (now m) ≡ WORDS) × (Roomy pen (now line)) ⌝ }
     ensures { λ r. ⌜ Writes (stated (now (line .entry)) (head (now (line .entry)))) (page (now (m .entry)) pen) (now (m .exit)) r ⌝ }
 {
     let head = read_head(line);

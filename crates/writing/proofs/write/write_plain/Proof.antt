@@ -1,7 +1,6 @@
 -- `write_plain` meets its contract: nothing is added, a statement is opened, or a list goes on, by the reader. Assumes nothing.
-use native.Mathlib.Omega.{arith}
 use borrow.Author.Needs.{needs}
-use Rattle.writing.proofs.Lines.{text-next, data-next, open-next, filled-next, nothing-turns, values-turn}
+use Rattle.writing.proofs.Lines.{text-next, data-next, list-next, nothing-turns, list-written}
 use Rattle.writing.proofs.write.write_plain.Statement.{statement}
 use Rattle.writing.proofs.write.write_plain.Tie as tie
 
@@ -14,17 +13,11 @@ enum-told-2 c = search needs
 write-statement-requires : tie.Need-write-statement-requires
 write-statement-requires c κs = search needs
 
-enum-told-3 : tie.Need-enum-told-3
-enum-told-3 c = search needs
+enum-known-reader : tie.Need-enum-known-reader
+enum-known-reader c = search needs
 
 give-list-requires : tie.Need-give-list-requires
 give-list-requires c κs = search needs
-
-enum-told-4 : tie.Need-enum-told-4
-enum-told-4 c = search needs
-
-give-list-requires-2 : tie.Need-give-list-requires-2
-give-list-requires-2 c κs = search needs
 
 returns : tie.Need-returns
 returns c = λ s es e. nothing-turns _ _ s es _ (text-next _ _ s es (c .enum-told .given .1) e)
@@ -40,18 +33,9 @@ same-length-2 c = search needs
 
 returns-3 : tie.Need-returns-3
 returns-3 c = λ s es e.
-    let p = c .before .before .before .before .before .before .before .before .pre in
-    values-turn _ _ s es _ _ _ (p .ready .some) (omega (arith, p .apart)) (c .before .before .give-list .ensures)
-    (open-next _ _ s es (c .before .before .before .before .enum-told3 .given .1) e)
-
-same-length-3 : tie.Need-same-length-3
-same-length-3 c = search needs
-
-returns-4 : tie.Need-returns-4
-returns-4 c = λ s es e.
-    let p = c .before .before .before .before .before .before .before .before .pre in
-    values-turn _ _ s es _ _ _ (p .ready .some) (omega (arith, p .apart)) (c .before .before .give-list2 .ensures)
-    (filled-next _ _ s es (c .before .before .before .before .enum-told4 .given .1) e)
+    let r = c .before .before .before .before .before in
+    let p = r .before .before .before .before .pre in
+    list-written _ _ s es _ (p .1) (p .0) _ _ _ (c .before .before .give-list .ensures) (list-next _ _ s es _ (r .reader .given .1) e)
 
 pub write-plain-spec : {M : Type 1} → statement M
 write-plain-spec =
@@ -60,14 +44,10 @@ write-plain-spec =
     enum-told
     enum-told-2
     write-statement-requires
-    enum-told-3
+    enum-known-reader
     give-list-requires
-    enum-told-4
-    give-list-requires-2
     returns
     same-length
     returns-2
     same-length-2
-    returns-3
-    same-length-3
-    returns-4)
+    returns-3)

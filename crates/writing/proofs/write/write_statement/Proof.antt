@@ -3,7 +3,7 @@ use native.Mathlib.Omega.{arith}
 use mathlib.Core.Path.{sym, _∙_}
 use borrow.Author.Needs.{needs}
 use Rattle.writing.proofs.Heads.{head-stands}
-use Rattle.writing.proofs.Lines.{blank-next, no-head, opened-ready, nothing-turns, statement-turns}
+use Rattle.writing.proofs.Lines.{blank-next, no-head, opened-ready, nothing-turns, statement-written}
 use Rattle.writing.proofs.write.write_statement.Statement.{statement}
 use Rattle.writing.proofs.write.write_statement.Tie as tie
 
@@ -37,7 +37,8 @@ open-statement-requires c κs = search needs
 give-values-requires : tie.Need-give-values-requires
 give-values-requires c κs =
     let a = c .before .before .before in
-    opened-ready _ _ _ _ _ _ _ (a .before .before .before .before .before .before .before .before .before .pre) (a .open-statement .ensures)
+    let p = a .before .before .before .before .before .before .before .before .before .pre in
+    (a .open-statement .kept .0 ∙ p .0, opened-ready _ _ _ _ _ _ _ (p .1) (a .open-statement .ensures))
 
 enum-told-2 : tie.Need-enum-told-2
 enum-told-2 c = search needs
@@ -52,8 +53,9 @@ returns-2 : tie.Need-returns-2
 returns-2 c = λ s es e.
     let a = c .before .before .before .before .before .before in
     let b = a .before .before .before .before .before .before in
-    statement-turns _ _ s es _ _ _ _ _ _ _ _ _ _ (sym (b .read-head .ensures) ∙ a .before .before .before .before .head .given .1)
-    (b .before .before .before .pre .apart) (a .open-statement .ensures) (c .before .before .give-values .ensures) e
+    let p = b .before .before .before .pre in
+    statement-written _ _ s es _ (p .1) (p .0) _ _ _ _ _ _ _ _ _ (sym (b .read-head .ensures) ∙ a .before .before .before .before .head .given .1)
+    (a .open-statement .ensures) (c .before .before .give-values .ensures) e
 
 returns-3 : tie.Need-returns-3
 returns-3 c = λ s es e. no-head _ _ _ _ s es (sym (c .before .before .read-head .ensures) ∙ c .enum-told2 .given .1) e

@@ -1,10 +1,11 @@
 -- `write_text` meets its contract: what is left to write onto this page is what was to be written onto the first. Assumes nothing.
 use Prim.Native.Nat.{_+_, _-_}
 use native.Mathlib.Omega.{arith}
+use mathlib.Core.Path.{_∙_}
 use borrow.Author.Needs.{needs}
 use lib.ListN.{length}
 use Rattle.text.specs.Text.{readText, added}
-use Rattle.writing.specs.Writing.{page, writtenOn}
+use Rattle.page.specs.Writing.{page, writtenOn}
 use Rattle.writing.proofs.Passes.{Passes, at-first, roomy, one-more, at-last}
 use Rattle.writing.proofs.write.write_text.Statement.{statement}
 use Rattle.writing.proofs.write.write_text.Tie as tie
@@ -16,7 +17,7 @@ abbrev μ-loop : tie.MeasureT-loop
 μ-loop m₀ text at₀ last₀ reader₀ m at last reader = length text + 1 - at
 
 loop-holds : tie.Need-loop-holds Inv-loop μ-loop
-loop-holds c = at-first _ _ _ (c .before .before .pre)
+loop-holds c = at-first _ _ _ (c .before .before .pre .1)
 
 cut-line-requires : tie.Need-cut-line-requires Inv-loop μ-loop
 cut-line-requires c κs = search needs
@@ -33,7 +34,9 @@ part-write-line-end c = omega (arith, c .before .cut-line .ensures .ends, c .bef
 write-line-requires : tie.Need-write-line-requires Inv-loop μ-loop
 write-line-requires c κs =
     let a = c .before .before in
-    roomy _ _ _ _ _ _ _ (a .before .before .loop .inv) _ (a .cut-line .ensures) (a .before .before .before .before .before .pre .long)
+    let l = a .before .before in
+    let p = l .before .before .before .pre in
+    (l .loop .inv .keeps ∙ p .0, roomy _ _ _ _ _ _ _ (l .loop .inv) _ (a .cut-line .ensures) (p .1 .long))
 
 loop-less : tie.Need-loop-less Inv-loop μ-loop
 loop-less c =

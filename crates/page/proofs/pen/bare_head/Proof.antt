@@ -1,7 +1,7 @@
 -- `bare_head` meets its contract: either operator's number above 2^32, and no values. Assumes nothing.
 use borrow.Author.Needs.{needs}
-use Rattle.writing.proofs.pen.bare_head.Statement.{statement}
-use Rattle.writing.proofs.pen.bare_head.Tie as tie
+use Rattle.page.proofs.pen.bare_head.Statement.{statement}
+use Rattle.page.proofs.pen.bare_head.Tie as tie
 
 enum-told : tie.Need-enum-told
 enum-told c = search needs

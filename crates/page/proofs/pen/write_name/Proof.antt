@@ -1,8 +1,8 @@
 -- `write_name` meets its contract: four words stored one after the other are the name's words written over. Assumes nothing.
 use borrow.Author.Needs.{needs}
-use Rattle.writing.proofs.Pages.{name-stored}
-use Rattle.writing.proofs.pen.write_name.Statement.{statement}
-use Rattle.writing.proofs.pen.write_name.Tie as tie
+use Rattle.page.proofs.Pages.{name-stored}
+use Rattle.page.proofs.pen.write_name.Statement.{statement}
+use Rattle.page.proofs.pen.write_name.Tie as tie
 
 pack-requires : tie.Need-pack-requires
 pack-requires c κs = search needs

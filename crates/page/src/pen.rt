@@ -2,43 +2,40 @@
 use layout::limits::HALF;
 use layout::limits::HEADS_AT;
 use layout::limits::NAMES_AT;
-use layout::limits::NAMEWORDS;
 use layout::limits::VALUES_AT;
-use layout::pack::pack;
-use text::line::Reader;
-use text::statements::Operator;
+use names::pack::NAMEWORDS;
+use names::pack::pack;
+use statement::head::Operator;
+use statement::values::Kind;
 use words::write::store;
 ghost use mathlib.Core.Path.{_≡_};
 ghost use Prim.Native.Nat.{_+_, _≤_};
 ghost use Rattle.words.specs.Over.{over};
-ghost use Rattle.layout.specs.Limits.{WORDS, STATEMENTS, VALUES};
-ghost use Rattle.layout.specs.Names.{packed};
-ghost use Rattle.writing.specs.Writing.{penBehind, bareHead, page, openedOn, toldOn};
-ghost use Rattle.writing.specs.Pens.{Opens, Tells};
+ghost use Rattle.words.specs.Halves.{upper};
+ghost use Rattle.names.specs.Names.{packed};
+ghost use Rattle.layout.specs.Limits.{WORDS, STATEMENTS, VALUES, LONGEST-LOAD};
+ghost use Rattle.page.specs.Writing.{penBehind, bareHead, page, openedOn, counting, toldOn};
+ghost use Rattle.page.specs.Pens.{Opens, Tells, isStrings};
 
-// The next free place of each area, and the head of the statement opened last.
+// The next free place of each area, the next free byte of the strings, and the head of the statement opened last.
 pub struct Pen {
     pub heads: usize,
     pub names: usize,
     pub values: usize,
+    pub bytes: usize,
     pub head: u64,
 }
 
-// The pen and the reader after a line.
-pub struct Turn {
-    pub pen: Pen,
-    pub reader: Reader,
-}
-
-// The pen behind so many statements and values.
-pub fn pen_behind(statements: usize, values: usize) -> Pen
+// The pen behind so many statements, values and bytes.
+pub fn pen_behind(statements: usize, values: usize, bytes: usize) -> Pen
     requires { ⌜ (statements ≤ STATEMENTS) × (values ≤ VALUES) ⌝ }
-    ensures { λ r. ⌜ r ≡ penBehind statements values ⌝ }
+    ensures { λ r. ⌜ r ≡ penBehind statements values bytes ⌝ }
 {
     Pen {
         heads: HEADS_AT + statements,
         names: NAMES_AT + NAMEWORDS * statements,
         values: VALUES_AT + values,
+        bytes,
         head: 0,
     }
 }
@@ -55,25 +52,45 @@ pub fn open_statement(m: &mut [u64], pen: Pen, name: &[u8], operator: Operator) 
         heads: pen.heads + 1,
         names: pen.names + NAMEWORDS,
         values: pen.values,
+        bytes: pen.bytes,
         head: head,
     }
 }
 
-// So many values more are told to the head of the statement opened last.
-pub fn tell(m: &mut [u64], pen: Pen, count: usize) -> Pen
+// So many values more, of such a kind, are told to the head of the statement opened last.
+pub fn tell(m: &mut [u64], pen: Pen, kind: Kind, count: usize) -> Pen
     requires { ⌜ Tells pen count ⌝ }
-    ensures { λ r. ⌜ page (now (m .exit)) r ≡ toldOn count (page (now (m .entry)) pen) ⌝ }
+    ensures { λ r. ⌜ page (now (m .exit)) r ≡ toldOn (isStrings kind) count (page (now (m .entry)) pen) ⌝ }
 {
     if count == 0 {
         return pen;
     }
-    let head = pen.head + (count as u64);
+    let head = count_on(pen.head, kind, count);
     store(m, pen.heads - 1, head);
     Pen {
         heads: pen.heads,
         names: pen.names,
-        values: pen.values + count,
+        values: pen.values,
+        bytes: pen.bytes,
         head: head,
+    }
+}
+
+// The head that counts so many values more; the first strings add 2 to its upper number.
+fn count_on(head: u64, kind: Kind, count: usize) -> u64
+    requires { ⌜ (upper head ≤ 3) × (count ≤ LONGEST-LOAD) ⌝ }
+    ensures { λ r. ⌜ r ≡ counting (isStrings kind) count head ⌝ }
+{
+    let more = head + (count as u64);
+    match kind {
+        Kind::Empty => more,
+        Kind::Numbers => more,
+        Kind::Strings => {
+            if head / HALF < 2 {
+                return more + 2 * HALF;
+            }
+            more
+        }
     }
 }
 

@@ -1,8 +1,8 @@
 -- `open_statement` meets its contract: the name's words and the bare head are stored where the pen stands. Assumes nothing.
 use borrow.Author.Needs.{needs}
-use Rattle.writing.specs.Writing.{openedOn}
-use Rattle.writing.proofs.pen.open_statement.Statement.{statement}
-use Rattle.writing.proofs.pen.open_statement.Tie as tie
+use Rattle.page.specs.Writing.{openedOn}
+use Rattle.page.proofs.pen.open_statement.Statement.{statement}
+use Rattle.page.proofs.pen.open_statement.Tie as tie
 
 bare-head-requires : tie.Need-bare-head-requires
 bare-head-requires c κs = search needs
