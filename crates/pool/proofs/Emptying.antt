@@ -7,6 +7,7 @@ use borrow.Author.Tests.{eq-eqb, ne-eqb, eqb-true}
 use lib.ListN.{length}
 use Rattle.refusal.specs.declared.Refusal.the-variants.{DamagedPool}
 use Rattle.words.specs.Over.{over}
+use Rattle.words.proofs.Each.{Words}
 use Rattle.words.proofs.Over.{over-nil}
 use Rattle.layout.specs.State.{program, flat}
 use Rattle.layout.specs.Limits.{WORDS, TEXTS-AT, HEADS-AT, NAMES-AT, VALUES-AT}
@@ -17,14 +18,15 @@ use Rattle.layout.proofs.Holds.{decode-put, put-sound}
 use Rattle.pool.specs.Replies.{refusing}
 use Rattle.pool.specs.Empty.{emptyReply, clearReply, emptied, Empties, Clears}
 use Rattle.pool.specs.declared.reply.Reply.the-variants.{Done}
+use Rattle.pool.proofs.Inking.{ink-none}
 
 -- the totals of nothing
 abbrev NONE : List ℕ
-NONE = 0 ∷ 0 ∷ 0 ∷ []
+NONE = 0 ∷ 0 ∷ 0 ∷ 0 ∷ []
 
-pub put-none : (m : List ℕ) → put [] m ≡ over 0 NONE m
+pub put-none : (m : List ℕ) → Words m → put [] m ≡ over 0 NONE m
 unfolding put program flat
-put-none m = ap (over 0 NONE) (over-nil VALUES-AT _ ∙ over-nil NAMES-AT _ ∙ over-nil HEADS-AT _ ∙ over-nil TEXTS-AT m)
+put-none m w = ap (over 0 NONE) (over-nil VALUES-AT _ ∙ over-nil NAMES-AT _ ∙ over-nil HEADS-AT _ ∙ over-nil TEXTS-AT _ ∙ ink-none 0 m w)
 
 -- ---- the two answers of each call
 

@@ -8,7 +8,7 @@ use lib.Dec.{eqb, ltb}
 use lib.ListN.{length}
 use Rattle.plain.specs.Choice.{if_then_else_}
 use Rattle.refusal.specs.declared.Refusal.the-variants.{LabelHeld, TextTooLong}
-use Rattle.text.specs.Statements.{Event}
+use Rattle.statement.specs.Statements.{Event}
 use Rattle.text.specs.Text.{Read, fine, refused, readText}
 use Rattle.plain.proofs.Each.{Each}
 use Rattle.plain.proofs.Tests.{true-false}

@@ -9,32 +9,33 @@ use lib.Dec.{ltb}
 use lib.ListN.{length}
 use Rattle.refusal.specs.declared.Refusal.{Refusal}
 use Rattle.refusal.specs.declared.Refusal.the-variants.{LabelHeld, TextTooLong, NoRoom, DamagedPool}
-use Rattle.text.specs.Faults.{refusalOf}
-use Rattle.text.specs.Statements.{Event, openings, givings}
+use Rattle.value.specs.Faults.{refusalOf}
+use Rattle.statement.specs.Statements.{Event, openings, givings, bytesGiven}
 use Rattle.text.specs.Text.{Read, fine, refused, readText, tallied}
 use Rattle.text.specs.declared.Checked.the-variants as C
-use Rattle.text.specs.declared.faults.Fault.{Fault}
-use Rattle.layout.specs.State.{Pool, flat, valuesOf}
+use Rattle.value.specs.declared.faults.Fault.{Fault}
+use Rattle.layout.specs.State.{Pool}
 use Rattle.layout.specs.Limits.{room, LONGEST-LOAD}
 use Rattle.layout.specs.Memory.{decode, put}
 use Rattle.layout.specs.Damage.{sound}
 use Rattle.pool.specs.Replies.{refusing}
-use Rattle.pool.specs.Load.{held, textOf, with, admitted, loadAnswer, loadReply, loadMemory, Loads, Accepts}
+use Rattle.pool.specs.Load.{held, textOf, with, Counted, admitted, loadAnswer, loadReply, loadMemory, Loads, Accepts}
 use Rattle.pool.specs.declared.reply.Reply.the-variants.{Done, Refused}
-use Rattle.pool.proofs.Adding.{body-counted, body-valued}
+use Rattle.pool.proofs.Adding.{body-counted}
 
 -- ---- what the first pass tells of the text
 
--- it is admitted, with so many statements and values
-pub record Admitted (x : Read) (n k : ℕ) : Type 0 where
+-- it is admitted, with so many statements, values and bytes in strings
+pub record Admitted (x : Read) (n k b : ℕ) : Type 0 where
   pub events : List Event
   pub reads : x ≡ fine events
   pub opens : openings events ≡ n
   pub gives : givings events ≡ k
+  pub spells : bytesGiven events ≡ b
 
-pub tallied-admitted : (x : Read) (n k : ℕ) → tallied x ≡ C.Admitted n k → Admitted x n k
-tallied-admitted (fine es) n k e = record { events = es; reads = refl; opens = cc; gives = cc }
-tallied-admitted (refused q l p) n k e = let z : _≡_ {A = ℕ} 0 1 = cc in absurd (omega arith)
+pub tallied-admitted : (x : Read) (n k b : ℕ) → tallied x ≡ C.Admitted n k b → Admitted x n k b
+tallied-admitted (fine es) n k b e = record { events = es; reads = refl; opens = cc; gives = cc; spells = cc }
+tallied-admitted (refused q l p) n k b e = let z : _≡_ {A = ℕ} 0 1 = cc in absurd (omega arith)
 
 tallied-refused : (x : Read) (q : Fault) (l p : ℕ) → tallied x ≡ C.Refused q l p → x ≡ refused q l p
 tallied-refused (fine es) q l p e = let z : _≡_ {A = ℕ} 0 1 = cc in absurd (omega arith)
@@ -44,13 +45,11 @@ tallied-refused (refused f i j) q l p e =
     let c : j ≡ p = cc in
     rw (a, b, c)
 
--- the statements and the values of a text that is admitted with these counts
-module _ (label : ℕ) (bytes : List ℕ) (n k : ℕ) (t : tallied (readText bytes) ≡ C.Admitted n k) where
-  pub statements-told : length (textOf label bytes .body) ≡ n
-  statements-told = let a = tallied-admitted (readText bytes) n k t in body-counted label bytes (a .events) (a .reads) ∙ a .opens
-
-  pub values-told : length (flat valuesOf (textOf label bytes .body)) ≡ k
-  values-told = let a = tallied-admitted (readText bytes) n k t in body-valued label bytes (a .events) (a .reads) ∙ a .gives
+-- the text has them
+pub text-counted : (label : ℕ) (bytes : List ℕ) (n k b : ℕ) → tallied (readText bytes) ≡ C.Admitted n k b → Counted (textOf label bytes) n k b
+text-counted label bytes n k b t =
+    let a = tallied-admitted (readText bytes) n k b t in
+    body-counted label bytes (a .events) (a .reads) n k b (a .opens) (a .gives) (a .spells)
 
 -- ---- the questions, in their order
 
@@ -101,17 +100,26 @@ module _ (label : ℕ) (bytes m : List ℕ) where
         pub faulty : (q : Fault) (line place : ℕ) → tallied (readText bytes) ≡ C.Refused q line place → Loads label bytes m (Refused (refusalOf q) line) m
         faulty q line place t = refuses (refusalOf q) line (answers ∙ ap (λ (x : Read). admitted x (room (with (decode m) (textOf label bytes)))) (tallied-refused (readText bytes) q line place t))
 
-        module _ (n k : ℕ) (t : tallied (readText bytes) ≡ C.Admitted n k) (b : Bool) (r : b ≡ room (with (decode m) (textOf label bytes))) where
-          read : Admitted (readText bytes) n k
-          read = tallied-admitted (readText bytes) n k t
+        module _ (n k b : ℕ) (t : tallied (readText bytes) ≡ C.Admitted n k b) (y : Bool) (r : y ≡ room (with (decode m) (textOf label bytes))) where
+          read : Admitted (readText bytes) n k b
+          read = tallied-admitted (readText bytes) n k b t
 
-          pub no-room : b ≡ false → Loads label bytes m (refusing NoRoom) m
+          pub no-room : y ≡ false → Loads label bytes m (refusing NoRoom) m
           no-room f = refuses NoRoom 0 (answers ∙ (λ i. admitted (read .reads i) ((sym r ∙ f) i)))
 
-          pub accepts : b ≡ true → Accepts label bytes n k m
-          accepts f = record { undamaged = e; events = read .events; reads = read .reads; long = l; opens = read .opens; gives = read .gives; roomy = sym r ∙ f }
+          pub accepts : y ≡ true → Accepts label bytes n k b m
+          accepts f = record {
+            undamaged = e;
+            events = read .events;
+            reads = read .reads;
+            long = l;
+            opens = read .opens;
+            gives = read .gives;
+            spells = read .spells;
+            roomy = sym r ∙ f;
+          }
 
-          pub done : b ≡ true → (after : List ℕ) → after ≡ put (with (decode m) (textOf label bytes)) m → Loads label bytes m Done after
+          pub done : y ≡ true → (after : List ℕ) → after ≡ put (with (decode m) (textOf label bytes)) m → Loads label bytes m Done after
           unfolding loadMemory
           done f after p =
               let d : loadReply label bytes m ≡ Done = answers ∙ (λ i. admitted (read .reads i) ((sym r ∙ f) i)) in

@@ -10,13 +10,14 @@ use Rattle.refusal.specs.declared.Refusal.the-variants.{NotHeld, DamagedPool}
 use Rattle.words.specs.Halves.{place}
 use Rattle.plain.proofs.Each.{Each}
 use Rattle.words.proofs.Each.{Words}
-use Rattle.layout.specs.State.{Pool}
+use Rattle.layout.specs.State.{Pool, program}
 use Rattle.layout.specs.Memory.{textCount, textWords, textWord, decode, put}
 use Rattle.layout.specs.Damage.{sound}
 use Rattle.layout.proofs.Areas.{length-texts}
 use Rattle.layout.proofs.Sound.{Sound, sound-of}
 use Rattle.layout.proofs.Codec.{ShortText, each-short-text}
-use Rattle.layout.proofs.Holds.{Holds, holds-decode, texts-decode, decode-fits}
+use Rattle.layout.proofs.Holds.{Holds, holds-decode, texts-decode, decode-fits, decode-legal}
+use Rattle.layout.proofs.Legal.{Fair}
 use Rattle.removing.specs.Gaps.{Gapped, takenOut}
 use Rattle.removing.proofs.Removal.{gapped, taken-out}
 use Rattle.pool.specs.Replies.{refusing}
@@ -52,14 +53,17 @@ module _ (l : ℕ) (m : List ℕ) (S : Sound m) where
     H : Holds m (P .before ++ (P .text ∷ P .after))
     H = subst (Holds m) (P .all) (holds-decode m S w)
 
+    F : Each Fair (program (P .before ++ (P .text ∷ P .after)))
+    F = subst (λ (s : Pool). Each Fair (program s)) (P .all) (decode-legal m S .statements)
+
     here : at ≡ length (P .before)
     here = place-decode ∙ P .here
 
     pub gapped-here : Gapped at m
-    gapped-here = subst (λ (k : ℕ). Gapped k m) (sym here) (gapped m (P .before) (P .text) (P .after) H)
+    gapped-here = subst (λ (k : ℕ). Gapped k m) (sym here) (gapped m (P .before) (P .text) (P .after) H F)
 
     pub taken-here : takenOut at m ≡ put (without l (decode m)) m
-    taken-here = ap (λ (k : ℕ). takenOut k m) here ∙ taken-out m (P .before) (P .text) (P .after) H ∙ sym (ap (λ (s : Pool). put s m) (P .rest))
+    taken-here = ap (λ (k : ℕ). takenOut k m) here ∙ taken-out m (P .before) (P .text) (P .after) H F w ∙ sym (ap (λ (s : Pool). put s m) (P .rest))
 
 -- ---- the three answers
 

@@ -1,12 +1,12 @@
--- 13 where "no held statement has that name", 14 where "buffer shorter than the variable", both after 15: what fetch answers, and the
--- buffer that it leaves. Definitions only.
+-- 13 where "no held statement has that name", 16 where a string is in the variable, 14 where "buffer shorter than the variable", all after
+-- 15: what fetch answers, and the buffer that it leaves. Definitions only.
 use Prim.Native.Nat.{ℕ}
 use mathlib.Core.Path.{_≡_}
 use mathlib.Core.List.{List}
 use lib.Ieee.{Float}
 use lib.ListN.{length}
 use Rattle.plain.specs.Choice.{if_then_else_}
-use Rattle.refusal.specs.declared.Refusal.the-variants.{NoVariable, ShortBuffer, DamagedPool}
+use Rattle.refusal.specs.declared.Refusal.the-variants.{NoVariable, MixedKind, ShortBuffer, DamagedPool}
 use Rattle.layout.specs.Memory.{decode}
 use Rattle.layout.specs.Damage.{sound}
 use Rattle.variables.specs.Found.{doubles, foundIn, filled}
@@ -18,6 +18,7 @@ use Rattle.variables.specs.declared.variable.Found.the-variants as W
 abbrev pub fetched : Found → Fetched
 fetched (W.Count n) = Count n
 fetched W.TooMany = Refused ShortBuffer
+fetched W.Mixed = Refused MixedKind
 fetched W.Absent = Refused NoVariable
 
 unfoldable pub fetchReply : (name : List ℕ) (room : ℕ) (m : List ℕ) → Fetched

@@ -4,4 +4,5 @@ pub mod Empty
 pub mod Load
 pub mod Remove
 pub mod Fetch
+pub mod FetchString
 pub mod Totals

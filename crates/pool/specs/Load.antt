@@ -8,10 +8,10 @@ use lib.Dec.{eqb, ltb}
 use lib.ListN.{length}
 use Rattle.plain.specs.Choice.{if_then_else_}
 use Rattle.refusal.specs.declared.Refusal.the-variants.{LabelHeld, TextTooLong, NoRoom, DamagedPool}
-use Rattle.text.specs.Faults.{refusalOf}
-use Rattle.text.specs.Statements.{Event, statements, openings, givings}
+use Rattle.value.specs.Faults.{refusalOf}
+use Rattle.statement.specs.Statements.{Event, statements, openings, givings, bytesGiven}
 use Rattle.text.specs.Text.{Read, fine, refused, readText, added}
-use Rattle.layout.specs.State.{Text, Pool}
+use Rattle.layout.specs.State.{Text, Pool, flat, valuesOf, bytesOf}
 use Rattle.layout.specs.Limits.{room, LONGEST-LOAD}
 use Rattle.layout.specs.Memory.{decode, put}
 use Rattle.layout.specs.Damage.{sound}
@@ -31,6 +31,12 @@ textOf label bytes = record { label = label; body = statements (added (readText 
 -- the state with one text more: "Taking out a label and loading it again puts it last."
 abbrev pub with : Pool → Text → Pool
 with s t = s ++ (t ∷ [])
+
+-- it has so many statements, values and bytes in strings
+pub record Counted (t : Text) (statements values spelled : ℕ) : Type 0 where
+  pub statements= : length (t .body) ≡ statements
+  pub values= : length (flat valuesOf (t .body)) ≡ values
+  pub bytes= : length (flat bytesOf (t .body)) ≡ spelled
 
 -- by what reading the text gave, and whether there is room
 abbrev pub admitted : Read → (room : Bool) → Reply
@@ -58,12 +64,13 @@ pub record Loads (label : ℕ) (bytes before : List ℕ) (r : Reply) (after : Li
   pub reply : r ≡ loadReply label bytes before
   pub memory : after ≡ loadMemory label bytes before
 
--- a text of so many statements and values is accepted
-pub record Accepts (label : ℕ) (bytes : List ℕ) (statements values : ℕ) (m : List ℕ) : Type 0 where
+-- a text of so many statements, values and bytes in strings is accepted
+pub record Accepts (label : ℕ) (bytes : List ℕ) (statements values spelled : ℕ) (m : List ℕ) : Type 0 where
   pub undamaged : sound m ≡ true
   pub events : List Event
   pub reads : readText bytes ≡ fine events
   pub long : length bytes ≤ LONGEST-LOAD
   pub opens : openings events ≡ statements
   pub gives : givings events ≡ values
+  pub spells : bytesGiven events ≡ spelled
   pub roomy : room (with (decode m) (textOf label bytes)) ≡ true

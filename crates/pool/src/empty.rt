@@ -34,5 +34,5 @@ pub fn clear(pool: &mut [u64]) -> Reply
 fn hold_nothing(pool: &mut [u64])
     ensures { λ _. ⌜ now (pool .exit) ≡ put [] (now (pool .entry)) ⌝ }
 {
-    write_totals(pool, 0, 0, 0);
+    write_totals(pool, 0, 0, 0, 0);
 }

@@ -1,4 +1,4 @@
-// Fetch a variable: 15, then 13, then 14.
+// Fetch a variable of numbers: 15, then 13, 16, 14.
 use crate::reply::Fetched;
 use layout::check::is_sound;
 use refusal::Refusal;
@@ -17,13 +17,14 @@ pub fn fetch(pool: &[u64], name: &[u8], buffer: &mut [f64]) -> Fetched
     answer(variable(pool, name, buffer))
 }
 
-// 13 where "no held statement has that name", 14 where "buffer shorter than the variable".
-fn answer(found: Found) -> Fetched
+// 13 where "no held statement has that name", 16 where the kind is another, 14 where "buffer shorter than the variable".
+pub fn answer(found: Found) -> Fetched
     ensures { λ r. ⌜ r ≡ fetched found ⌝ }
 {
     match found {
         Found::Count(n) => Fetched::Count(n),
         Found::TooMany => Fetched::Refused(Refusal::ShortBuffer),
+        Found::Mixed => Fetched::Refused(Refusal::MixedKind),
         Found::Absent => Fetched::Refused(Refusal::NoVariable),
     }
 }

@@ -1,6 +1,7 @@
 // The calls on a pool: document 01, "What the library holds".
 pub mod empty;
 pub mod fetch;
+pub mod fetch_string;
 pub mod load;
 pub mod remove;
 pub mod reply;

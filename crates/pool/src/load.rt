@@ -2,6 +2,8 @@
 use crate::reply::Reply;
 use layout::area::texts_of;
 use layout::check::is_sound;
+use layout::limits::BYTE_COUNT;
+use layout::limits::BYTES;
 use layout::limits::HALF;
 use layout::limits::STATEMENT_COUNT;
 use layout::limits::STATEMENTS;
@@ -11,22 +13,21 @@ use layout::limits::TEXTS_AT;
 use layout::limits::VALUE_COUNT;
 use layout::limits::VALUES;
 use layout::total::write_totals;
+use page::pen::pen_behind;
 use refusal::Refusal;
 use text::Checked;
 use text::check;
-use text::faults::refusal_of;
+use value::faults::refusal_of;
 use words::scan::place_of;
 use words::write::store;
-use writing::pen::pen_behind;
 use writing::write::write_text;
 ghost use mathlib.Core.Path.{_≡_};
 ghost use mathlib.Core.Bool.{true};
-ghost use lib.ListN.{length};
-ghost use Rattle.layout.specs.State.{Text, flat, valuesOf};
+ghost use Rattle.layout.specs.State.{Text};
 ghost use Rattle.layout.specs.Limits.{room};
 ghost use Rattle.layout.specs.Memory.{decode, put};
 ghost use Rattle.layout.specs.Damage.{Framed, sound};
-ghost use Rattle.pool.specs.Load.{Loads, held, with, textOf, Accepts};
+ghost use Rattle.pool.specs.Load.{Loads, Counted, held, with, textOf, Accepts};
 
 // The longest text, in bytes.
 const LONGEST_LOAD: usize = 65536;
@@ -46,11 +47,11 @@ pub fn load(pool: &mut [u64], label: u32, text: &[u8]) -> Reply
     }
     let checked = check(text);
     match checked {
-        Checked::Admitted(statements, values) => {
-            if !has_room(pool, statements, values) {
+        Checked::Admitted(statements, values, bytes) => {
+            if !has_room(pool, statements, values, bytes) {
                 return Reply::Refused(Refusal::NoRoom, 0);
             }
-            add(pool, label, text, statements, values);
+            add(pool, label, text, statements, values, bytes);
             Reply::Done
         }
         Checked::Refused(fault, line, _) => Reply::Refused(refusal_of(fault), line),
@@ -66,10 +67,10 @@ fn is_held(pool: &[u64], label: u32) -> bool
     place_of(texts, label as u64) < texts.len()
 }
 
-// There is room for a text more, of so many statements and values.
-fn has_room(pool: &[u64], statements: usize, values: usize) -> bool
+// There is room for a text more, of so many statements, values and bytes in strings.
+fn has_room(pool: &[u64], statements: usize, values: usize, bytes: usize) -> bool
     requires { ⌜ sound (now pool) ≡ true ⌝ }
-    ensures { λ r. ⌜ ((t : Text) → length (t .body) ≡ statements → length (flat valuesOf (t .body)) ≡ values → r ≡ room (with (decode (now (pool .entry))) t)) ⌝ }
+    ensures { λ r. ⌜ ((t : Text) → Counted t statements values bytes → r ≡ room (with (decode (now (pool .entry))) t)) ⌝ }
 {
     if TEXTS <= pool[TEXT_COUNT] {
         return false;
@@ -80,18 +81,22 @@ fn has_room(pool: &[u64], statements: usize, values: usize) -> bool
     if VALUES - pool[VALUE_COUNT] < (values as u64) {
         return false;
     }
+    if BYTES - pool[BYTE_COUNT] < (bytes as u64) {
+        return false;
+    }
     true
 }
 
-// An accepted text of so many statements and values is written behind what is held, and the totals last.
-fn add(pool: &mut [u64], label: u32, text: &[u8], statements: usize, values: usize)
-    requires { ⌜ Accepts label (now text) statements values (now pool) ⌝ }
+// An accepted text of so many statements, values and bytes in strings is written behind what is held, and the totals last.
+fn add(pool: &mut [u64], label: u32, text: &[u8], statements: usize, values: usize, bytes: usize)
+    requires { ⌜ Accepts label (now text) statements values bytes (now pool) ⌝ }
     ensures { λ _. ⌜ now (pool .exit) ≡ put (with (decode (now (pool .entry))) (textOf label (now (text .entry)))) (now (pool .entry)) ⌝ }
 {
     let texts = pool[TEXT_COUNT];
     let opened = pool[STATEMENT_COUNT];
     let given = pool[VALUE_COUNT];
-    let pen = pen_behind(opened as usize, given as usize);
+    let spelled = pool[BYTE_COUNT];
+    let pen = pen_behind(opened as usize, given as usize, spelled as usize);
     store(
         pool,
         TEXTS_AT + (texts as usize),
@@ -103,5 +108,6 @@ fn add(pool: &mut [u64], label: u32, text: &[u8], statements: usize, values: usi
         texts + 1,
         opened + (statements as u64),
         given + (values as u64),
+        spelled + (bytes as u64),
     );
 }

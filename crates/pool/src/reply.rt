@@ -7,7 +7,7 @@ pub enum Reply {
     Refused(Refusal, usize),
 }
 
-// The answer of fetch: how many values were written.
+// The answer of a fetch: how many values were written, or how many bytes of a string.
 pub enum Fetched {
     Count(usize),
     Refused(Refusal),

@@ -9,7 +9,7 @@ use Rattle.layout.specs.Memory.{decode}
 use Rattle.layout.specs.Damage.{sound}
 use Rattle.layout.proofs.Sound.{sound-of}
 use Rattle.pool.specs.Load.{held}
-use Rattle.pool.proofs.Loading.{statements-told, values-told, damaged, label-held, too-long, faulty, no-room, accepts, done}
+use Rattle.pool.proofs.Loading.{text-counted, damaged, label-held, too-long, faulty, no-room, accepts, done}
 use Rattle.pool.proofs.load.load.Statement.{statement}
 use Rattle.pool.proofs.load.load.Tie as tie
 
@@ -66,15 +66,15 @@ returns-4 : tie.Need-returns-4
 returns-4 c =
     let a = c .before .before .before .before .before .before in
     let t = sym (a .check .ensures) ∙ c .before .before .before .before .checked .given .1 in
-    let r = c .before .has-room .ensures _ (statements-told _ _ _ _ t) (values-told _ _ _ _ t) in
-    no-room _ _ _ (undamaged (a .before .before .before .before .before)) (free (a .before .before)) (a .before .if3 .left) _ _ t _ r (not-true _ (c .if4 .taken))
+    let r = c .before .has-room .ensures _ (text-counted _ _ _ _ _ t) in
+    no-room _ _ _ (undamaged (a .before .before .before .before .before)) (free (a .before .before)) (a .before .if3 .left) _ _ _ t _ r (not-true _ (c .if4 .taken))
 
 add-requires : tie.Need-add-requires
 add-requires c κs =
     let a = c .before .before .before .before .before .before .before in
     let t = sym (a .check .ensures) ∙ c .before .before .before .before .before .checked .given .1 in
-    let r = c .before .before .has-room .ensures _ (statements-told _ _ _ _ t) (values-told _ _ _ _ t) in
-    accepts _ _ _ (undamaged (a .before .before .before .before .before)) (free (a .before .before)) (a .before .if3 .left) _ _ t _ r (not-false _ (c .before .if4 .left))
+    let r = c .before .before .has-room .ensures _ (text-counted _ _ _ _ _ t) in
+    accepts _ _ _ (undamaged (a .before .before .before .before .before)) (free (a .before .before)) (a .before .if3 .left) _ _ _ t _ r (not-false _ (c .before .if4 .left))
 
 enum-known-checked-2 : tie.Need-enum-known-checked-2
 enum-known-checked-2 c = search needs
@@ -90,8 +90,8 @@ returns-5 c =
     let b = c .before .before .before .before .before in
     let a = b .before .before .before .before .before in
     let t = sym (a .check .ensures) ∙ b .before .before .before .checked .given .1 in
-    let r = b .has-room .ensures _ (statements-told _ _ _ _ t) (values-told _ _ _ _ t) in
-    done _ _ _ (undamaged (a .before .before .before .before .before)) (free (a .before .before)) (a .before .if3 .left) _ _ t _ r (not-false _ (c .before .before .before .before .if4 .left)) _ (c .before .before .add .ensures)
+    let r = b .has-room .ensures _ (text-counted _ _ _ _ _ t) in
+    done _ _ _ (undamaged (a .before .before .before .before .before)) (free (a .before .before)) (a .before .if3 .left) _ _ _ t _ r (not-false _ (c .before .before .before .before .if4 .left)) _ (c .before .before .add .ensures)
 
 same-length-6 : tie.Need-same-length-6
 same-length-6 c = search needs
