@@ -1,6 +1,6 @@
--- The steps in their order are document 01's: 10, 11 and 12 for the texts of any pool. Assumes nothing.
-use mathlib.Core.Path.{_≡_, refl}
-use mathlib.Core.Bool.{Bool, true, false, _||_}
+-- The steps in their order are the documents': 10, 11, 16 and 12 for the texts of any pool. Assumes nothing.
+use mathlib.Core.Path.{_≡_, refl, ap, _∙_}
+use mathlib.Core.Bool.{Bool, true, false, _||_, not}
 use mathlib.Core.List.{List}
 use Prim.Native.Nat.{ℕ, _+_, _≤_, _<_}
 use native.Mathlib.Omega.{arith}
@@ -12,13 +12,15 @@ use Rattle.rotation.specs.declared.matrix.Oriented.{Oriented}
 use Rattle.rotation.specs.declared.matrix.Oriented.the-variants.{Refused}
 use Rattle.plain.proofs.Tests.{true-false}
 use Rattle.layout.specs.State.{Pool}
-use Rattle.wanted.specs.Elements.{there, list, fewValues, nutating, angles, enoughAngles}
+use Rattle.wanted.specs.Elements.{there, numeric, list, fewValues, polynomial, nutating, angles, enoughAngles}
 use Rattle.globe.specs.Orientation.{byElements}
-use Rattle.wanted.specs.Steps.{valuesOf, presence, baseOf, byNutation}
+use Rattle.wanted.specs.Steps.{valuesOf, presence, isMixed, baseOf}
 use Rattle.wanted.specs.declared.elements.Values.{Values}
+use Rattle.wanted.specs.declared.elements.Values.the-variants as P
 use Rattle.wanted.specs.declared.name.Wanted.the-variants as W
 use Rattle.wanted.proofs.Found.{not-there-empty}
 use Rattle.wanted.proofs.Polynomials.{presence-most}
+use Rattle.nutation.specs.Answer.{byNutation}
 
 neither : (a b : Bool) → (a || b) ≡ false → (a ≡ false) × (b ≡ false)
 neither true b e = true-false e
@@ -28,35 +30,52 @@ either-way : (b : Bool) (x : Oriented) → (if b then x else x) ≡ x
 either-way true x = refl
 either-way false x = refl
 
-presence-true : (xs : List Float) → presence (valuesOf true xs) ≡ 1
-presence-true xs = by (fewValues xs) refl
+presence-true : (numeric : Bool) (xs : List Float) → presence (valuesOf true numeric xs) ≡ 1
+presence-true true xs = by (fewValues xs) refl
   where
-    by : (b : Bool) → fewValues xs ≡ b → presence (valuesOf true xs) ≡ 1
+    by : (b : Bool) → fewValues xs ≡ b → presence (valuesOf true true xs) ≡ 1
     by true e = rw e
     by false e = rw e
+presence-true false xs = refl
 
-presence-there : (there : Bool) (xs : List Float) → 1 ≤ presence (valuesOf there xs) → there ≡ true
-presence-there true xs h = refl
-presence-there false xs h = absurd (omega arith)
+presence-there : (there numeric : Bool) (xs : List Float) → 1 ≤ presence (valuesOf there numeric xs) → there ≡ true
+presence-there true numeric xs h = refl
+presence-there false numeric xs h = absurd (omega arith)
+
+-- what is there is mixed exactly when it is not of numbers, however many it has
+mixed-there : {there : Bool} (numeric : Bool) (xs : List Float) → there ≡ true → isMixed (valuesOf there numeric xs) ≡ not numeric
+mixed-there true xs e = rw e (by (fewValues xs))
+  where
+    by : (b : Bool) → isMixed (if b then P.Few (polynomial xs) else P.Miscounted) ≡ false
+    by true = refl
+    by false = refl
+mixed-there false xs e = rw e
 
 module _ (s : Pool) (n k : ℕ) (epoch : Float) where
   abbrev ra : Values
-  ra = valuesOf (there s n W.PoleRa) (list s n W.PoleRa)
+  ra = valuesOf (there s n W.PoleRa) (numeric s n W.PoleRa) (list s n W.PoleRa)
 
   abbrev dec : Values
-  dec = valuesOf (there s n W.PoleDec) (list s n W.PoleDec)
+  dec = valuesOf (there s n W.PoleDec) (numeric s n W.PoleDec) (list s n W.PoleDec)
 
   abbrev pm : Values
-  pm = valuesOf (there s n W.Pm) (list s n W.Pm)
+  pm = valuesOf (there s n W.Pm) (numeric s n W.Pm) (list s n W.Pm)
+
+  -- each of the three that is there counts as one
+  ra-one : there s n W.PoleRa ≡ true → presence ra ≡ 1
+  ra-one e = rw e (presence-true (numeric s n W.PoleRa) (list s n W.PoleRa))
+
+  dec-one : there s n W.PoleDec ≡ true → presence dec ≡ 1
+  dec-one e = rw e (presence-true (numeric s n W.PoleDec) (list s n W.PoleDec))
+
+  pm-one : there s n W.Pm ≡ true → presence pm ≡ 1
+  pm-one e = rw e (presence-true (numeric s n W.Pm) (list s n W.Pm))
 
   none-by : (a b c : Bool) → there s n W.PoleRa ≡ a → there s n W.PoleDec ≡ b → there s n W.Pm ≡ c → presence ra + presence dec + presence pm ≡ 0
       → Refused UnknownBody ≡ byElements s n epoch (Of k)
-  none-by true b c e f g h =
-      absurd (let z : presence (valuesOf true (list s n W.PoleRa)) + presence dec + presence pm ≡ 0 = rw e at h in omega (arith, presence-true (list s n W.PoleRa)))
-  none-by false true c e f g h =
-      absurd (let z : presence ra + presence (valuesOf true (list s n W.PoleDec)) + presence pm ≡ 0 = rw f at h in omega (arith, presence-true (list s n W.PoleDec)))
-  none-by false false true e f g h =
-      absurd (let z : presence ra + presence dec + presence (valuesOf true (list s n W.Pm)) ≡ 0 = rw g at h in omega (arith, presence-true (list s n W.Pm)))
+  none-by true b c e f g h = absurd (omega (arith, ra-one e))
+  none-by false true c e f g h = absurd (omega (arith, dec-one f))
+  none-by false false true e f g h = absurd (omega (arith, pm-one g))
   none-by false false false e f g h = simp (e, f, g)
 
   pub none-there : presence ra + presence dec + presence pm ≡ 0 → Refused UnknownBody ≡ byElements s n epoch (Of k)
@@ -64,8 +83,7 @@ module _ (s : Pool) (n k : ℕ) (epoch : Float) where
 
   some-by : (a b c : Bool) → there s n W.PoleRa ≡ a → there s n W.PoleDec ≡ b → there s n W.Pm ≡ c → 0 < presence ra + presence dec + presence pm
       → presence ra + presence dec + presence pm < 3 → Refused Incomplete ≡ byElements s n epoch (Of k)
-  some-by true true true e f g h i =
-      absurd (let z : 3 < 3 = rw (e, f, g, presence-true (list s n W.PoleRa), presence-true (list s n W.PoleDec), presence-true (list s n W.Pm)) at i in omega arith)
+  some-by true true true e f g h i = absurd (omega (arith, ra-one e, dec-one f, pm-one g))
   some-by true true false e f g h i = simp (e, f, g)
   some-by true false c e f g h i = simp (e, f)
   some-by false true c e f g h i = simp (e, f)
@@ -89,20 +107,41 @@ module _ (s : Pool) (n k : ℕ) (epoch : Float) where
       let b = neither (there s n W.NutPrecRa) (there s n W.NutPrecDec) (a .0) in
       simp (e, not-there-empty s n W.NutPrecRa (b .0), not-there-empty s n W.NutPrecDec (b .1), not-there-empty s n W.NutPrecPm (a .1))
 
-  counted-by : (x y z : Bool) → fewValues (list s n W.PoleRa) ≡ x → fewValues (list s n W.PoleDec) ≡ y → fewValues (list s n W.Pm) ≡ z
-      → there s n W.PoleRa ≡ true → there s n W.PoleDec ≡ true → there s n W.Pm ≡ true
-      → byNutation s n k epoch (baseOf ra dec pm) ≡ byElements s n epoch (Of k)
-  counted-by true true true a b c e f g = simp (e, f, g, a, b, c, enough-by (nutating s n) refl)
-  counted-by true true false a b c e f g = simp (e, f, g, a, b, c, either-way)
-  counted-by true false z a b c e f g = simp (e, f, g, a, b, either-way)
-  counted-by false y z a b c e f g = simp (e, f, g, a, either-way)
+  module _ (e : there s n W.PoleRa ≡ true) (f : there s n W.PoleDec ≡ true) (g : there s n W.Pm ≡ true) where
+    -- and of numbers: the counts decide
+    counted-by : (x y z : Bool) → fewValues (list s n W.PoleRa) ≡ x → fewValues (list s n W.PoleDec) ≡ y → fewValues (list s n W.Pm) ≡ z
+        → numeric s n W.PoleRa ≡ true → numeric s n W.PoleDec ≡ true → numeric s n W.Pm ≡ true
+        → byNutation s n k epoch false (baseOf ra dec pm) ≡ byElements s n epoch (Of k)
+    counted-by true true true a b c u v w = simp (e, f, g, u, v, w, a, b, c, enough-by (nutating s n) refl)
+    counted-by true true false a b c u v w = simp (e, f, g, u, v, w, a, b, c, either-way)
+    counted-by true false z a b c u v w = simp (e, f, g, u, v, w, a, b, either-way)
+    counted-by false y z a b c u v w = simp (e, f, g, u, v, w, a, either-way)
 
-  pub all-there : 3 ≤ presence ra + presence dec + presence pm → byNutation s n k epoch (baseOf ra dec pm) ≡ byElements s n epoch (Of k)
+    -- a string in one of them is told before any count
+    told-by : (x y z : Bool) → numeric s n W.PoleRa ≡ x → numeric s n W.PoleDec ≡ y → numeric s n W.Pm ≡ z
+        → byNutation s n k epoch (not x || not y || not z) (baseOf ra dec pm) ≡ byElements s n epoch (Of k)
+    told-by true true true u v w =
+        counted-by (fewValues (list s n W.PoleRa)) (fewValues (list s n W.PoleDec)) (fewValues (list s n W.Pm)) refl refl refl u v w
+    told-by true true false u v w = simp (e, f, g, u, v, w)
+    told-by true false z u v w = simp (e, f, g, u, v)
+    told-by false y z u v w = simp (e, f, g, u)
+
+    told : byNutation s n k epoch (isMixed ra || isMixed dec || isMixed pm) (baseOf ra dec pm) ≡ byElements s n epoch (Of k)
+    told =
+        let x = numeric s n W.PoleRa in
+        let y = numeric s n W.PoleDec in
+        let z = numeric s n W.Pm in
+        let m : (isMixed ra || isMixed dec || isMixed pm) ≡ (not x || not y || not z) =
+        rw (mixed-there x (list s n W.PoleRa) e, mixed-there y (list s n W.PoleDec) f, mixed-there z (list s n W.Pm) g) in
+        ap (λ (b : Bool). byNutation s n k epoch b (baseOf ra dec pm)) m ∙ told-by x y z refl refl refl
+
+  pub all-there : 3 ≤ presence ra + presence dec + presence pm
+      → byNutation s n k epoch (isMixed ra || isMixed dec || isMixed pm) (baseOf ra dec pm) ≡ byElements s n epoch (Of k)
   all-there h =
       let x = presence-most ra in
       let y = presence-most dec in
       let z = presence-most pm in
-      counted-by (fewValues (list s n W.PoleRa)) (fewValues (list s n W.PoleDec)) (fewValues (list s n W.Pm)) refl refl refl
-      (presence-there (there s n W.PoleRa) (list s n W.PoleRa) (omega arith))
-      (presence-there (there s n W.PoleDec) (list s n W.PoleDec) (omega arith))
-      (presence-there (there s n W.Pm) (list s n W.Pm) (omega arith))
+      told
+      (presence-there (there s n W.PoleRa) (numeric s n W.PoleRa) (list s n W.PoleRa) (omega arith))
+      (presence-there (there s n W.PoleDec) (numeric s n W.PoleDec) (list s n W.PoleDec) (omega arith))
+      (presence-there (there s n W.Pm) (numeric s n W.Pm) (list s n W.Pm) (omega arith))

@@ -1,11 +1,11 @@
--- "Order: 15 first; .. 9, 10, 11, 12. Fifteen is not checked where the built-in source is named." The call for an orientation.
--- Definitions only.
+-- "Order: 15 first; .. 9, 10, 11, 12. Fifteen is not checked where the built-in source is named." "16 MIXED KIND .. stands just before 12".
+-- The call for an orientation. Definitions only.
 use Prim.Native.Nat.{ℕ}
 use mathlib.Core.Path.{_≡_}
 use mathlib.Core.List.{List}
 use lib.Ieee.{Float}
 use Rattle.plain.specs.Choice.{if_then_else_}
-use Rattle.refusal.specs.declared.Refusal.the-variants.{Epoch, UnknownBody, Incomplete, WrongCount, DamagedPool}
+use Rattle.refusal.specs.declared.Refusal.the-variants.{Epoch, UnknownBody, Incomplete, MixedKind, WrongCount, DamagedPool}
 use Rattle.rotation.specs.Epochs.{inReach}
 use Rattle.rotation.specs.Codes.{systemOf}
 use Rattle.rotation.specs.Evaluation.{evaluated}
@@ -17,7 +17,7 @@ use Rattle.rotation.specs.declared.matrix.Oriented.the-variants.{Given, Refused
 use Rattle.layout.specs.State.{Pool}
 use Rattle.layout.specs.Memory.{decode}
 use Rattle.layout.specs.Damage.{sound}
-use Rattle.wanted.specs.Elements.{noneThere, complete, wellCounted, elements, angles, list}
+use Rattle.wanted.specs.Elements.{noneThere, complete, allNumeric, wellCounted, elements, angles, list}
 use Rattle.wanted.specs.declared.name.Wanted.the-variants as W
 use Rattle.globe.specs.declared.source.Source.{Source}
 use Rattle.globe.specs.declared.source.Source.the-variants as S
@@ -28,9 +28,11 @@ byElements s n epoch Nowhere = Refused UnknownBody
 byElements s n epoch (Of k) =
     if noneThere s n then Refused UnknownBody
     else (if complete s n k
+    then (if allNumeric s n k
     then (if wellCounted s n k
     then Given (evaluated (elements s n) epoch (angles s n k) (list s n W.NutPrecRa) (list s n W.NutPrecDec) (list s n W.NutPrecPm))
     else Refused WrongCount)
+    else Refused MixedKind)
     else Refused Incomplete)
 
 -- from the texts of an undamaged pool

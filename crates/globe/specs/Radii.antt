@@ -1,4 +1,4 @@
--- "BODYn_RADII absent: 10; not three values: 12." The call for radii. Definitions only.
+-- "BODYn_RADII absent: 10; not three values: 12.", and 16 for a string in it just before 12. The call for radii. Definitions only.
 use Prim.Native.Nat.{ℕ}
 use mathlib.Core.Path.{_≡_}
 use mathlib.Core.Bool.{Bool}
@@ -7,7 +7,7 @@ use lib.Dec.{eqb}
 use lib.Ieee.{Float, nan}
 use lib.ListN.{length, getD}
 use Rattle.plain.specs.Choice.{if_then_else_}
-use Rattle.refusal.specs.declared.Refusal.the-variants.{UnknownBody, WrongCount, DamagedPool}
+use Rattle.refusal.specs.declared.Refusal.the-variants.{UnknownBody, MixedKind, WrongCount, DamagedPool}
 use Rattle.rotation.specs.Codes.{systemOf}
 use Rattle.rotation.specs.Builtin.{builtinRadii}
 use Rattle.rotation.specs.declared.code.System.{System}
@@ -18,7 +18,7 @@ use Rattle.rotation.specs.declared.table.Radii.the-variants.{Given, Refused}
 use Rattle.layout.specs.State.{Pool}
 use Rattle.layout.specs.Memory.{decode}
 use Rattle.layout.specs.Damage.{sound}
-use Rattle.wanted.specs.Elements.{there, list}
+use Rattle.wanted.specs.Elements.{there, numeric, list}
 use Rattle.wanted.specs.declared.name.Wanted.the-variants as W
 use Rattle.globe.specs.declared.source.Source.{Source}
 use Rattle.globe.specs.declared.source.Source.the-variants as S
@@ -26,13 +26,16 @@ use Rattle.globe.specs.declared.source.Source.the-variants as S
 abbrev pub axes : List Float → Axes
 axes xs = record { a = getD xs 0 nan; b = getD xs 1 nan; c = getD xs 2 nan }
 
--- by whether the variable is there, and its values
-abbrev pub measured : Bool → List Float → Radii
-measured there xs = if there then (if eqb (length xs) 3 then Given (axes xs) else Refused WrongCount) else Refused UnknownBody
+-- by whether the variable is there and of numbers, and its values
+abbrev pub measured : (there numeric : Bool) → List Float → Radii
+measured there numeric xs =
+    if there
+    then (if numeric then (if eqb (length xs) 3 then Given (axes xs) else Refused WrongCount) else Refused MixedKind)
+    else Refused UnknownBody
 
 -- of a body of a known system
 abbrev pub radiiOf : Pool → (n : ℕ) → Radii
-radiiOf s n = measured (there s n W.Radii) (list s n W.Radii)
+radiiOf s n = measured (there s n W.Radii) (numeric s n W.Radii) (list s n W.Radii)
 
 abbrev pub bySystem : Pool → (n : ℕ) → System → Radii
 bySystem s n Nowhere = Refused UnknownBody

@@ -1,9 +1,10 @@
-// The calls of document 01, each with its whole contract: a record of what it answers and of the memory that it leaves.
+// The calls of documents 01 and 02, each with its whole contract: a record of what it answers and of the memory that it leaves.
 use super::orientation;
 use super::radii;
 use super::source::Source;
 use pool::empty;
 use pool::fetch;
+use pool::fetch_string;
 use pool::load;
 use pool::remove;
 use pool::reply::Counts;
@@ -15,6 +16,7 @@ use rotation::matrix::Oriented;
 use rotation::table::Radii;
 ghost use Rattle.pool.specs.Empty.{Empties, Clears};
 ghost use Rattle.pool.specs.Fetch.{Fetches};
+ghost use Rattle.pool.specs.FetchString.{FetchesString};
 ghost use Rattle.pool.specs.Load.{Loads};
 ghost use Rattle.pool.specs.Remove.{Removes};
 ghost use Rattle.pool.specs.Totals.{Totals};
@@ -61,6 +63,13 @@ pub fn fetch(pool: &[u64], name: &[u8], buffer: &mut [f64]) -> Fetched
     ensures { λ r. ⌜ Fetches (now (name .entry)) (now (pool .entry)) (now (buffer .entry)) r (now (buffer .exit)) ⌝ }
 {
     fetch::fetch(pool, name, buffer)
+}
+
+// The string at a place of a variable, counted from 1, written from the buffer's start.
+pub fn fetch_string(pool: &[u64], name: &[u8], place: usize, buffer: &mut [u8]) -> Fetched
+    ensures { λ r. ⌜ FetchesString (now (name .entry)) place (now (pool .entry)) (now (buffer .entry)) r (now (buffer .exit)) ⌝ }
+{
+    fetch_string::fetch_string(pool, name, place, buffer)
 }
 
 // The orientation of a body at an epoch, in TDB seconds past J2000. The pool is looked at only where it is the source.

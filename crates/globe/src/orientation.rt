@@ -1,17 +1,13 @@
-// An orientation from a pool: 15, 9, 10, 11, 12, or document 01's evaluation.
+// An orientation from a pool: 15, 9, 10, 11, 16, 12, or document 01's evaluation.
 use layout::check::is_sound;
+use nutation::answer::by_nutation;
 use refusal::Refusal;
 use rotation::code;
 use rotation::code::System;
 use rotation::epoch;
 use rotation::matrix::Oriented;
 use wanted::elements;
-use wanted::elements::Base;
 use wanted::name::Wanted;
-use wanted::nutation;
-use wanted::nutation::ANGLES;
-use wanted::nutation::COEFFICIENTS;
-use wanted::nutation::Terms;
 ghost use mathlib.Core.Path.{_≡_};
 ghost use mathlib.Core.Bool.{true};
 ghost use Prim.Native.Nat.{_≤_};
@@ -19,7 +15,7 @@ ghost use Rattle.layout.specs.Memory.{decode};
 ghost use Rattle.layout.specs.Damage.{sound};
 ghost use Rattle.wanted.specs.Names.{LARGEST};
 ghost use Rattle.globe.specs.Orientation.{orientationReply, orientationFrom, byElements};
-ghost use Rattle.wanted.specs.Steps.{Askable, byNutation};
+ghost use Rattle.wanted.specs.Steps.{Askable};
 ghost use Rattle.globe.specs.declared.source.Source.the-variants as Source;
 ghost use Rattle.rotation.specs.declared.code.System.the-variants.{Of};
 
@@ -48,7 +44,7 @@ fn at_epoch(pool: &[u64], code: u32, epoch: f64) -> Oriented
     by_elements(pool, code, k, epoch)
 }
 
-// "None of the three present: 10; some missing: 11."
+// "None of the three present: 10; some missing: 11." The rest is by nutation.
 fn by_elements(pool: &[u64], code: u32, system: u32, epoch: f64) -> Oriented
     requires { ⌜ (Askable (now pool) code) × (system ≤ LARGEST) ⌝ }
     ensures { λ r. ⌜ r ≡ byElements (decode (now (pool .entry))) code epoch (Of system) ⌝ }
@@ -63,32 +59,7 @@ fn by_elements(pool: &[u64], code: u32, system: u32, epoch: f64) -> Oriented
     if held < 3 {
         return Oriented::Refused(Refusal::Incomplete);
     }
-    by_nutation(pool, code, system, epoch, elements::assemble(ra, dec, pm))
-}
-
-// 11 for angles that are wanted and absent; 12 for wrong counts; else the evaluation.
-fn by_nutation(pool: &[u64], code: u32, system: u32, epoch: f64, base: Base) -> Oriented
-    requires { ⌜ (Askable (now pool) code) × (system ≤ LARGEST) ⌝ }
-    ensures { λ r. ⌜ r ≡ byNutation (decode (now (pool .entry))) code system epoch base ⌝ }
-{
-    let mut ra = [0.0; COEFFICIENTS];
-    let mut dec = [0.0; COEFFICIENTS];
-    let mut pm = [0.0; COEFFICIENTS];
-    let mut angles = [0.0; ANGLES];
-    let r = elements::find(pool, code, Wanted::NutPrecRa, &mut ra);
-    let d = elements::find(pool, code, Wanted::NutPrecDec, &mut dec);
-    let p = elements::find(pool, code, Wanted::NutPrecPm, &mut pm);
-    let wanted = nutation::any_there(r, d, p);
-    let a = nutation::find_angles(pool, system, wanted, &mut angles);
-    let terms = nutation::count_terms(a, r, d, p);
-    match terms {
-        Terms::Missing => Oriented::Refused(Refusal::Incomplete),
-        Terms::Miscounted => Oriented::Refused(Refusal::WrongCount),
-        Terms::Counted(n) => {
-            let Base::Whole(e) = base else {
-                return Oriented::Refused(Refusal::WrongCount);
-            };
-            Oriented::Given(nutation::evaluate(e, epoch, n, &angles, &ra, &dec, &pm))
-        }
-    }
+    let mixed = elements::any_mixed(ra, dec, pm);
+    let base = elements::assemble(ra, dec, pm);
+    by_nutation(pool, code, system, epoch, mixed, base)
 }

@@ -1,4 +1,4 @@
-// Radii from a pool: 15, 10, 12, or three values.
+// Radii from a pool: 15, 10, 16, 12, or three values.
 use layout::check::is_sound;
 use refusal::Refusal;
 use rotation::code;
@@ -38,7 +38,7 @@ fn by_code(pool: &[u64], code: u32) -> Radii
     }
 }
 
-// "BODYn_RADII absent: 10; not three values: 12."
+// "BODYn_RADII absent: 10; not three values: 12.", and 16 for a string just before 12.
 fn of_body(pool: &[u64], code: u32) -> Radii
     requires { ⌜ Askable (now pool) code ⌝ }
     ensures { λ r. ⌜ r ≡ radiiOf (decode (now (pool .entry))) code ⌝ }
@@ -57,6 +57,7 @@ fn of_body(pool: &[u64], code: u32) -> Radii
             })
         }
         Found::TooMany => Radii::Refused(Refusal::WrongCount),
+        Found::Mixed => Radii::Refused(Refusal::MixedKind),
         Found::Absent => Radii::Refused(Refusal::UnknownBody),
     }
 }

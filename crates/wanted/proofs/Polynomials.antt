@@ -1,4 +1,4 @@
--- A variable found over three zeros: which of the four cases of `valuesOf` it is. Assumes nothing.
+-- A variable found over three zeros: which of the five cases of `valuesOf` it is. Assumes nothing.
 use mathlib.Core.Path.{_≡_, refl, ap, _∙_}
 use mathlib.Core.Bool.{Bool}
 use mathlib.Core.List.{List, [], _∷_}
@@ -16,7 +16,7 @@ use Rattle.wanted.specs.Elements.{polynomial}
 use Rattle.wanted.specs.Steps.{Looks, valuesOf, presence}
 use Rattle.wanted.specs.declared.elements.Values.{Values}
 use Rattle.wanted.specs.declared.elements.Values.the-variants as P
-use Rattle.wanted.proofs.Found.{counted, crowded, absent}
+use Rattle.wanted.proofs.Found.{counted, crowded, mixed, absent}
 
 -- three zeros
 abbrev pub zeros : List Float
@@ -35,27 +35,33 @@ missing-zero (a ∷ b ∷ []) h = refl
 missing-zero (a ∷ b ∷ c ∷ []) h = refl
 missing-zero (a ∷ b ∷ c ∷ d ∷ xs) h = absurd (omega arith)
 
-pub few : {there : Bool} {xs after : List Float} {r : Found} → Looks there xs zeros r after → (n : ℕ) → r ≡ F.Count n → (n ≡ 0 → ⊥)
-    → P.Few (firstThree after) ≡ valuesOf there xs
+pub few : {there numeric : Bool} {xs after : List Float} {r : Found} → Looks there numeric xs zeros r after → (n : ℕ) → r ≡ F.Count n → (n ≡ 0 → ⊥)
+    → P.Few (firstThree after) ≡ valuesOf there numeric xs
 few {xs = xs} l n e k =
     let f = counted l n e in
-    rw (f .present, le-leb 1 (length xs) (omega arith), le-leb (length xs) 3 (f .roomy))
+    rw (f .present, f .numbers, le-leb 1 (length xs) (omega arith), le-leb (length xs) 3 (f .roomy))
     (ap P.Few (ap firstThree (f .written) ∙ missing-zero xs (f .roomy)))
 
 -- ---- a variable that is no polynomial, found over three places
 
-module _ {there : Bool} {xs before after : List Float} {r : Found} (l : Looks there xs before r after) (size : length before ≡ 3) where
-  pub too-few : (n : ℕ) → r ≡ F.Count n → n ≡ 0 → P.Miscounted ≡ valuesOf there xs
-  too-few n e k = let f = counted l n e in rw (f .present, lt-leb 1 (length xs) (omega arith))
+module _ {there numeric : Bool} {xs before after : List Float} {r : Found} (l : Looks there numeric xs before r after) (size : length before ≡ 3) where
+  pub too-few : (n : ℕ) → r ≡ F.Count n → n ≡ 0 → P.Miscounted ≡ valuesOf there numeric xs
+  too-few n e k = let f = counted l n e in rw (f .present, f .numbers, lt-leb 1 (length xs) (omega arith))
 
-  pub too-many : r ≡ F.TooMany → P.Miscounted ≡ valuesOf there xs
-  too-many e = let f = crowded l e in rw (f .present, le-leb 1 (length xs) (omega arith), lt-leb (length xs) 3 (omega (arith, f .crowded)))
+  pub too-many : r ≡ F.TooMany → P.Miscounted ≡ valuesOf there numeric xs
+  too-many e =
+      let f = crowded l e in
+      rw (f .present, f .numbers, le-leb 1 (length xs) (omega arith), lt-leb (length xs) 3 (omega (arith, f .crowded)))
 
-  pub not-there : r ≡ F.Absent → P.Absent ≡ valuesOf there xs
+  pub of-strings : r ≡ F.Mixed → P.Mixed ≡ valuesOf there numeric xs
+  of-strings e = let f = mixed l e in rw (f .present, f .strings)
+
+  pub not-there : r ≡ F.Absent → P.Absent ≡ valuesOf there numeric xs
   not-there e = rw (absent l e)
 
 -- a variable counts as one at most
 pub presence-most : (v : Values) → presence v ≤ 1
 presence-most (P.Few p) = omega arith
 presence-most P.Miscounted = omega arith
+presence-most P.Mixed = omega arith
 presence-most P.Absent = omega arith

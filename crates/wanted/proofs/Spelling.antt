@@ -6,7 +6,7 @@ use native.Mathlib.Omega.{arith}
 use lib.Dec.{ltb}
 use lib.ListN.{length, length-append}
 use Rattle.plain.specs.Choice.{if_then_else_}
-use Rattle.text.specs.Statements.{NAME}
+use Rattle.statement.specs.Head.{NAME}
 use Rattle.wanted.specs.Names.{SUFFIX, FIGURES, figure, numeral, suffix, nameOf}
 use Rattle.wanted.specs.declared.name.Wanted.{Wanted}
 use Rattle.wanted.specs.declared.name.Wanted.the-variants as W

@@ -13,7 +13,7 @@ use Rattle.plain.specs.Doubles.{nought}
 use Rattle.rotation.specs.declared.elements.Polynomial.{Polynomial}
 use Rattle.rotation.specs.declared.elements.Elements.{Elements}
 use Rattle.layout.specs.State.{Pool}
-use Rattle.variables.specs.Variables.{present}
+use Rattle.variables.specs.Variables.{variable, present, allNumbers}
 use Rattle.variables.specs.Found.{doubles}
 use Rattle.wanted.specs.Names.{nameOf}
 use Rattle.wanted.specs.declared.name.Wanted.{Wanted}
@@ -25,6 +25,10 @@ there s n wanted = present (nameOf n wanted) s
 
 abbrev pub list : Pool → ℕ → Wanted → List Float
 list s n wanted = doubles (nameOf n wanted) s
+
+-- no string is in it
+abbrev pub numeric : Pool → ℕ → Wanted → Bool
+numeric s n wanted = allNumbers (variable (nameOf n wanted) s)
 
 -- ---- pole and meridian
 
@@ -61,11 +65,18 @@ abbrev pub enoughAngles : (angles ra dec pm : List Float) → Bool
 enoughAngles angles ra dec pm =
     eqb (length angles % 2) 0 && leb (length angles) ANGLES && leb (2 * max (length ra) (max (length dec) (length pm))) (length angles)
 
--- ---- what is missing or miscounted; k is the system of the code n
+-- ---- what is missing, of a mixed kind or miscounted; k is the system of the code n
 
 -- "some missing: 11 .. BODYs_NUT_PREC_ANGLES must be (else 11)"
 abbrev pub complete : Pool → (n k : ℕ) → Bool
 complete s n k = allThere s n && (if nutating s n then there s k W.NutPrecAngles else true)
+
+-- "16 MIXED KIND, from any numeric query that meets a variable with a string in it": pole and meridian, those of the nutation variables that
+-- are there, and the angles where one of these is
+abbrev pub allNumeric : Pool → (n k : ℕ) → Bool
+allNumeric s n k =
+    numeric s n W.PoleRa && numeric s n W.PoleDec && numeric s n W.Pm && numeric s n W.NutPrecRa && numeric s n W.NutPrecDec
+    && numeric s n W.NutPrecPm && (if nutating s n then numeric s k W.NutPrecAngles else true)
 
 -- "otherwise 12"
 abbrev pub wellCounted : Pool → (n k : ℕ) → Bool

@@ -2,7 +2,7 @@
 use Prim.Native.Nat.{ℕ, _≤_}
 use mathlib.Core.List.{List}
 use lib.ListN.{length}
-use Rattle.text.specs.Statements.{NAME}
+use Rattle.statement.specs.Head.{NAME}
 use Rattle.wanted.specs.Names.{LARGEST}
 
 -- a code of three figures at most, and room for a name

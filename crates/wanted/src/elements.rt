@@ -3,19 +3,21 @@ use super::name;
 use super::name::Wanted;
 use rotation::elements::Elements;
 use rotation::elements::Polynomial;
-use text::statements::NAME;
+use statement::head::NAME;
 use variables::variable::Found;
 use variables::variable::variable;
 ghost use mathlib.Core.Path.{_≡_};
+ghost use mathlib.Core.Bool.{_||_};
 ghost use Prim.Native.Nat.{_+_};
 ghost use Rattle.layout.specs.Memory.{decode};
-ghost use Rattle.wanted.specs.Elements.{there, list};
-ghost use Rattle.wanted.specs.Steps.{Askable, LooksFor, valuesOf, presence, baseOf};
+ghost use Rattle.wanted.specs.Elements.{there, numeric, list};
+ghost use Rattle.wanted.specs.Steps.{Askable, LooksFor, valuesOf, presence, isMixed, baseOf};
 
 // A variable of pole or meridian: "1 to 3 values each".
 pub enum Values {
     Few(Polynomial),
     Miscounted,
+    Mixed,
     Absent,
 }
 
@@ -38,7 +40,8 @@ pub fn find(pool: &[u64], code: u32, wanted: Wanted, out: &mut [f64]) -> Found
 // A body's polynomial; the values that are missing are 0.
 pub fn polynomial_of(pool: &[u64], code: u32, wanted: Wanted) -> Values
     requires { ⌜ Askable (now pool) code ⌝ }
-    ensures { λ r. ⌜ r ≡ valuesOf (there (decode (now (pool .entry))) code wanted) (list (decode (now (pool .entry))) code wanted) ⌝ }
+    ensures { λ r. ⌜ r ≡ valuesOf (there (decode (now (pool .entry))) code wanted) (numeric (decode (now (pool .entry))) code wanted)
+        (list (decode (now (pool .entry))) code wanted) ⌝ }
 {
     let mut xs = [0.0; 3];
     let found = find(pool, code, wanted, &mut xs);
@@ -54,6 +57,7 @@ pub fn polynomial_of(pool: &[u64], code: u32, wanted: Wanted) -> Values
             })
         }
         Found::TooMany => Values::Miscounted,
+        Found::Mixed => Values::Mixed,
         Found::Absent => Values::Absent,
     }
 }
@@ -78,12 +82,15 @@ pub fn assemble(ra: Values, dec: Values, pm: Values) -> Base
                     pm: z,
                 }),
                 Values::Miscounted => Base::Miscounted,
+                Values::Mixed => Base::Miscounted,
                 Values::Absent => Base::Miscounted,
             },
             Values::Miscounted => Base::Miscounted,
+            Values::Mixed => Base::Miscounted,
             Values::Absent => Base::Miscounted,
         },
         Values::Miscounted => Base::Miscounted,
+        Values::Mixed => Base::Miscounted,
         Values::Absent => Base::Miscounted,
     }
 }
@@ -95,6 +102,31 @@ fn count_one(values: Values) -> usize
     match values {
         Values::Few(_) => 1,
         Values::Miscounted => 1,
+        Values::Mixed => 1,
         Values::Absent => 0,
+    }
+}
+
+// A string is in one of the three.
+pub fn any_mixed(ra: Values, dec: Values, pm: Values) -> bool
+    ensures { λ r. ⌜ r ≡ (isMixed ra || isMixed dec || isMixed pm) ⌝ }
+{
+    if is_mixed(ra) {
+        return true;
+    }
+    if is_mixed(dec) {
+        return true;
+    }
+    is_mixed(pm)
+}
+
+fn is_mixed(values: Values) -> bool
+    ensures { λ r. ⌜ r ≡ isMixed values ⌝ }
+{
+    match values {
+        Values::Few(_) => false,
+        Values::Miscounted => false,
+        Values::Mixed => true,
+        Values::Absent => false,
     }
 }

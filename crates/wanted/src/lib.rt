@@ -1,4 +1,3 @@
 // "Elements wanted": a body's variables by their names, found in a pool and counted.
 pub mod elements;
 pub mod name;
-pub mod nutation;

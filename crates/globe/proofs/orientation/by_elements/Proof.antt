@@ -4,7 +4,7 @@ use Prim.Native.Nat.{_+_}
 use native.Mathlib.Omega.{arith}
 use borrow.Author.Needs.{needs}
 use Rattle.layout.specs.Memory.{decode}
-use Rattle.wanted.specs.Elements.{there, list}
+use Rattle.wanted.specs.Elements.{there, numeric, list}
 use Rattle.wanted.specs.Steps.{valuesOf, presence}
 use Rattle.wanted.specs.declared.name.Wanted.the-variants as W
 use Rattle.globe.proofs.Ordered.{none-there, some-missing, all-there}
@@ -14,9 +14,9 @@ use Rattle.globe.proofs.orientation.by_elements.Tie as tie
 -- the code's number is how many of the three the texts have
 tallied : (c : tie.After-count-held)
     → c .count-held .result
-    ≡ presence (valuesOf (there (decode (c .before .before .before .before .before .args .pool .now)) (c .before .before .before .before .before .args .code) W.PoleRa) (list (decode (c .before .before .before .before .before .args .pool .now)) (c .before .before .before .before .before .args .code) W.PoleRa))
-    + presence (valuesOf (there (decode (c .before .before .before .before .before .args .pool .now)) (c .before .before .before .before .before .args .code) W.PoleDec) (list (decode (c .before .before .before .before .before .args .pool .now)) (c .before .before .before .before .before .args .code) W.PoleDec))
-    + presence (valuesOf (there (decode (c .before .before .before .before .before .args .pool .now)) (c .before .before .before .before .before .args .code) W.Pm) (list (decode (c .before .before .before .before .before .args .pool .now)) (c .before .before .before .before .before .args .code) W.Pm))
+    ≡ presence (valuesOf (there (decode (c .before .before .before .before .before .args .pool .now)) (c .before .before .before .before .before .args .code) W.PoleRa) (numeric (decode (c .before .before .before .before .before .args .pool .now)) (c .before .before .before .before .before .args .code) W.PoleRa) (list (decode (c .before .before .before .before .before .args .pool .now)) (c .before .before .before .before .before .args .code) W.PoleRa))
+    + presence (valuesOf (there (decode (c .before .before .before .before .before .args .pool .now)) (c .before .before .before .before .before .args .code) W.PoleDec) (numeric (decode (c .before .before .before .before .before .args .pool .now)) (c .before .before .before .before .before .args .code) W.PoleDec) (list (decode (c .before .before .before .before .before .args .pool .now)) (c .before .before .before .before .before .args .code) W.PoleDec))
+    + presence (valuesOf (there (decode (c .before .before .before .before .before .args .pool .now)) (c .before .before .before .before .before .args .code) W.Pm) (numeric (decode (c .before .before .before .before .before .args .pool .now)) (c .before .before .before .before .before .args .code) W.Pm) (list (decode (c .before .before .before .before .before .args .pool .now)) (c .before .before .before .before .before .args .code) W.Pm))
 tallied c = rw (c .count-held .ensures, c .before .before .before .polynomial-of .ensures, c .before .before .polynomial-of2 .ensures, c .before .polynomial-of3 .ensures)
 
 polynomial-of-requires : tie.Need-polynomial-of-requires
@@ -37,6 +37,9 @@ returns c = none-there _ _ _ _ (rw (← tallied (c .before)) (c .if1 .taken))
 returns-2 : tie.Need-returns-2
 returns-2 c = let t = tallied (c .before .before) in some-missing _ _ _ _ (rw (← t) (omega arith)) (rw (← t) (c .if2 .taken))
 
+any-mixed-requires : tie.Need-any-mixed-requires
+any-mixed-requires c κs = search needs
+
 assemble-requires : tie.Need-assemble-requires
 assemble-requires c κs = search needs
 
@@ -45,15 +48,17 @@ by-nutation-requires c κs = search needs
 
 returns-3 : tie.Need-returns-3
 returns-3 c =
-    let a = c .before .before .before .before .before .before .before .before .before .args in
+    let p = c .before .before .before .before .before in
+    let a = p .before .before .before .before .before .args in
     rw (
       c .by-nutation .ensures,
       c .before .assemble .ensures,
-      c .before .before .before .before .before .before .before .polynomial-of .ensures,
-      c .before .before .before .before .before .before .polynomial-of2 .ensures,
-      c .before .before .before .before .before .polynomial-of3 .ensures,
+      c .before .before .any-mixed .ensures,
+      p .before .before .before .polynomial-of .ensures,
+      p .before .before .polynomial-of2 .ensures,
+      p .before .polynomial-of3 .ensures,
     )
-    (all-there (decode (a .pool .now)) (a .code) (a .system) (a .epoch) (rw (← tallied (c .before .before .before .before)) (c .before .before .if2 .left)))
+    (all-there (decode (a .pool .now)) (a .code) (a .system) (a .epoch) (rw (← tallied p) (c .before .before .before .if2 .left)))
 
 pub by-elements-spec : {M : Type 1} → statement M
 by-elements-spec =
@@ -65,6 +70,7 @@ by-elements-spec =
     count-held-requires
     returns
     returns-2
+    any-mixed-requires
     assemble-requires
     by-nutation-requires
     returns-3)

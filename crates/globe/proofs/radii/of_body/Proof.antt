@@ -1,7 +1,7 @@
 -- `of_body` meets its contract: what was found over three places is three values, or a refusal. Assumes nothing.
 use mathlib.Core.Path.{refl}
 use borrow.Author.Needs.{needs}
-use Rattle.globe.proofs.Axes.{three, not-three, over-three, no-radii}
+use Rattle.globe.proofs.Axes.{three, not-three, over-three, of-strings, no-radii}
 use Rattle.globe.proofs.radii.of_body.Statement.{statement}
 use Rattle.globe.proofs.radii.of_body.Tie as tie
 
@@ -32,6 +32,9 @@ enum-told c = search needs
 enum-told-2 : tie.Need-enum-told-2
 enum-told-2 c = search needs
 
+enum-told-3 : tie.Need-enum-told-3
+enum-told-3 c = search needs
+
 returns-2 : tie.Need-returns-2
 returns-2 c = three (c .before .before .before .before .before .find .ensures) refl _ (c .before .before .found .given .1) (c .if1 .left)
 
@@ -39,7 +42,10 @@ returns-3 : tie.Need-returns-3
 returns-3 c = over-three (c .before .before .before .find .ensures) refl (c .enum-told .given .1)
 
 returns-4 : tie.Need-returns-4
-returns-4 c = no-radii (c .before .before .before .find .ensures) refl (c .enum-told2 .given .1)
+returns-4 c = of-strings (c .before .before .before .find .ensures) refl (c .enum-told2 .given .1)
+
+returns-5 : tie.Need-returns-5
+returns-5 c = no-radii (c .before .before .before .find .ensures) refl (c .enum-told3 .given .1)
 
 pub of-body-spec : {M : Type 1} → statement M
 of-body-spec =
@@ -54,6 +60,8 @@ of-body-spec =
     array-read-t20
     enum-told
     enum-told-2
+    enum-told-3
     returns-2
     returns-3
-    returns-4)
+    returns-4
+    returns-5)

@@ -1,7 +1,7 @@
--- `count_terms` meets its contract: each arm is a line of `termsOf`. Assumes nothing.
+-- `count` meets its contract: each arm is a line of `countedOf`. Assumes nothing.
 use borrow.Author.Needs.{needs}
-use Rattle.wanted.proofs.nutation.count_terms.Statement.{statement}
-use Rattle.wanted.proofs.nutation.count_terms.Tie as tie
+use Rattle.nutation.proofs.terms.count.Statement.{statement}
+use Rattle.nutation.proofs.terms.count.Tie as tie
 
 enum-known-angles : tie.Need-enum-known-angles
 enum-known-angles c = search needs
@@ -24,6 +24,9 @@ enum-told c = search needs
 enum-told-2 : tie.Need-enum-told-2
 enum-told-2 c = search needs
 
+enum-told-3 : tie.Need-enum-told-3
+enum-told-3 c = search needs
+
 returns : tie.Need-returns
 returns c =
     rw (c .before .before .before .before .before .angles .given .1, c .weigh .ensures, c .before .count-of3 .ensures, c .before .before .count-of2 .ensures, c .before .before .before .count-of .ensures)
@@ -34,8 +37,11 @@ returns-2 c = search needs
 returns-3 : tie.Need-returns-3
 returns-3 c = search needs
 
-pub count-terms-spec : {M : Type 1} → statement M
-count-terms-spec =
+returns-4 : tie.Need-returns-4
+returns-4 c = search needs
+
+pub count-spec : {M : Type 1} → statement M
+count-spec =
     tie.close
     (tie.spec
     enum-known-angles
@@ -45,6 +51,8 @@ count-terms-spec =
     weigh-requires
     enum-told
     enum-told-2
+    enum-told-3
     returns
     returns-2
-    returns-3)
+    returns-3
+    returns-4)

@@ -1,5 +1,5 @@
 -- Nutation found in buffers: the counts decide as document 01's lists do, and the parts of the buffers are the lists. Assumes nothing.
-use mathlib.Core.Path.{_≡_, refl, _∙_}
+use mathlib.Core.Path.{_≡_, refl, sym, _∙_}
 use mathlib.Core.Bool.{Bool, true, false}
 use mathlib.Core.List.{List, []}
 use Prim.Native.Nat.{ℕ, _+_, _*_, _%_, _≤_, _<_, min, max}
@@ -8,19 +8,22 @@ use borrow.Author.Tests.{le-leb, lt-leb, leb-true, leb-false}
 use lib.Dec.{leb, eqb}
 use lib.Ieee.{Float}
 use lib.ListN.{length, take}
-use Rattle.refusal.specs.declared.Refusal.the-variants.{Incomplete, WrongCount}
-use Rattle.rotation.specs.declared.matrix.Oriented.{Oriented}
+use Rattle.refusal.specs.declared.Refusal.the-variants.{WrongCount}
 use Rattle.rotation.specs.declared.matrix.Oriented.the-variants.{Refused}
+use Rattle.plain.proofs.Tests.{true-false}
 use Rattle.variables.specs.declared.variable.Found.{Found}
 use Rattle.variables.specs.declared.variable.Found.the-variants as F
 use Rattle.wanted.specs.Elements.{ANGLES}
-use Rattle.wanted.specs.Steps.{Looks, COEFFICIENTS, countOf, weighed, termsOf, Fronts, byBase, byAngles}
+use Rattle.wanted.specs.Steps.{Looks}
 use Rattle.wanted.specs.declared.elements.Base.{Base}
-use Rattle.wanted.specs.declared.nutation.Lengths.{Lengths}
-use Rattle.wanted.specs.declared.nutation.Terms.{Terms}
-use Rattle.wanted.specs.declared.nutation.Terms.the-variants as T
 use Rattle.wanted.proofs.Fronts.{front}
-use Rattle.wanted.proofs.Found.{Counted, counted, crowded, absent}
+use Rattle.wanted.proofs.Found.{counted, crowded, mixed, absent}
+use Rattle.nutation.specs.Found.{isThere, anyStrange}
+use Rattle.nutation.specs.Terms.{COEFFICIENTS, countOf, weighed, countedOf, termsOf}
+use Rattle.nutation.specs.Answer.{Fronts, Served, byTerms, byAngles}
+use Rattle.nutation.specs.declared.terms.Lengths.{Lengths}
+use Rattle.nutation.specs.declared.terms.Terms.{Terms}
+use Rattle.nutation.specs.declared.terms.Terms.the-variants as T
 
 -- ---- coefficients
 
@@ -29,17 +32,18 @@ pub record Held (xs after : List Float) (r : Found) : Type 0 where
   pub count : countOf r ≡ min (length xs) (COEFFICIENTS + 1)
   pub front : length xs ≤ COEFFICIENTS → take (length xs) after ≡ xs
 
-pub coefficients : {there : Bool} {xs before after : List Float} (r : Found) → Looks there xs before r after → length before ≡ COEFFICIENTS
-    → (there ≡ false → xs ≡ []) → Held xs after r
-coefficients {xs = xs} {before} {after} (F.Count n) l h none =
+pub coefficients : {there numeric : Bool} {xs before after : List Float} (r : Found) → Looks there numeric xs before r after → numeric ≡ true
+    → length before ≡ COEFFICIENTS → (there ≡ false → xs ≡ []) → Held xs after r
+coefficients {xs = xs} {before} {after} (F.Count n) l e h none =
     let f = counted l n refl in
     record { count = omega (arith, f .count, f .roomy); front = λ _. front xs before after (length xs) (f .written) (f .roomy) refl }
-coefficients {xs = xs} F.TooMany l h none =
+coefficients {xs = xs} F.TooMany l e h none =
     let f = crowded l refl in
     record { count = omega (arith, f .crowded); front = λ k. absurd (omega (arith, f .crowded)) }
-coefficients {after = after} F.Absent l h none =
-    let e = none (absent l refl) in
-    rw e (record { count = refl; front = λ _. refl })
+coefficients F.Mixed l e h none = true-false (sym e ∙ mixed l refl .strings)
+coefficients {after = after} F.Absent l e h none =
+    let z = none (absent l refl) in
+    rw z (record { count = refl; front = λ _. refl })
 
 -- ---- angles and coefficients together
 
@@ -64,19 +68,12 @@ cut-enough n m h = by (leb (2 * m) n) refl
 cut-counts : (n x y z : ℕ) → n ≤ ANGLES → leb (2 * longest (upTo x) (upTo y) (upTo z)) n ≡ leb (2 * longest x y z) n
 cut-counts n x y z h = rw (cut-max y z, cut-max x (max y z)) (cut-enough n (longest x y z) h)
 
--- an answer by what the counts came to, the lists being the fronts of the buffers
-abbrev pub byTerms : (epoch : Float) (angles ra dec pm : List Float) → Base → Terms → Oriented
-byTerms epoch angles ra dec pm base T.Missing = Refused Incomplete
-byTerms epoch angles ra dec pm base T.Miscounted = Refused WrongCount
-byTerms epoch angles ra dec pm base (T.Counted n) =
-    byBase epoch (take (n .angles) angles) (take (n .ra) ra) (take (n .dec) dec) (take (n .pm) pm) base
-
 module _ (epoch : Float) (base : Base) (angles ra dec pm before : List Float) (angles′ ra′ dec′ pm′ : List Float) (r d p : Found)
     (lr : Held ra ra′ r) (ld : Held dec dec′ d) (lp : Held pm pm′ p) (room : length before ≡ ANGLES) where
   -- of an even number of angles, which have room
   even : (b : Bool) → leb (2 * longest (length ra) (length dec) (length pm)) (length angles) ≡ b → length angles ≤ ANGLES → eqb (length angles % 2) 0 ≡ true
       → take (length angles) angles′ ≡ angles
-      → byTerms epoch angles′ ra′ dec′ pm′ base (weighed (length angles) (countOf r) (countOf d) (countOf p)) ≡ byAngles epoch true angles ra dec pm base
+      → byTerms epoch angles′ ra′ dec′ pm′ base (weighed (length angles) (countOf r) (countOf d) (countOf p)) ≡ byAngles epoch true true angles ra dec pm base
   even true e h k f =
       let g : 2 * longest (length ra) (length dec) (length pm) ≤ length angles = leb-true _ _ e in
       let x : countOf r ≡ length ra = lr .count ∙ omega arith in
@@ -87,25 +84,24 @@ module _ (epoch : Float) (base : Base) (angles ra dec pm before : List Float) (a
       rw (lr .count, ld .count, lp .count, k, le-leb (length angles) ANGLES h, cut-counts (length angles) (length ra) (length dec) (length pm) h, e)
 
   by-parity : (b : Bool) → eqb (length angles % 2) 0 ≡ b → length angles ≤ ANGLES → take (length angles) angles′ ≡ angles
-      → byTerms epoch angles′ ra′ dec′ pm′ base (weighed (length angles) (countOf r) (countOf d) (countOf p)) ≡ byAngles epoch true angles ra dec pm base
+      → byTerms epoch angles′ ra′ dec′ pm′ base (weighed (length angles) (countOf r) (countOf d) (countOf p)) ≡ byAngles epoch true true angles ra dec pm base
   by-parity true k h f = even (leb (2 * longest (length ra) (length dec) (length pm)) (length angles)) refl h k f
   by-parity false k h f = rw k
 
   -- of too many angles
-  by-excess : (b : Bool) → eqb (length angles % 2) 0 ≡ b → ANGLES < length angles → Refused WrongCount ≡ byAngles epoch true angles ra dec pm base
+  by-excess : (b : Bool) → eqb (length angles % 2) 0 ≡ b → ANGLES < length angles → Refused WrongCount ≡ byAngles epoch true true angles ra dec pm base
   by-excess true k h = rw (k, lt-leb (length angles) ANGLES h)
   by-excess false k h = rw k
 
-  pub decided : {there : Bool} (a : Found) → Looks there angles before a angles′
-      → byTerms epoch angles′ ra′ dec′ pm′ base (termsOf a r d p) ≡ byAngles epoch there angles ra dec pm base
-  decided (F.Count n) l =
+  pub decided : {there numeric : Bool} (a : Found) → Looks there numeric angles before a angles′ → there ≡ true → numeric ≡ true
+      → byTerms epoch angles′ ra′ dec′ pm′ base (countedOf a r d p) ≡ byAngles epoch true true angles ra dec pm base
+  decided (F.Count n) l e i =
       let f = counted l n refl in
-      rw (f .present, f .count)
+      rw (f .count)
       (by-parity (eqb (length angles % 2) 0) refl (omega (arith, f .roomy)) (front angles before angles′ (length angles) (f .written) (f .roomy) refl))
-  decided F.TooMany l =
-      let f = crowded l refl in
-      rw (f .present) (by-excess (eqb (length angles % 2) 0) refl (omega (arith, f .crowded)))
-  decided F.Absent l = rw (absent l refl)
+  decided F.TooMany l e i = by-excess (eqb (length angles % 2) 0) refl (omega (arith, crowded l refl .crowded))
+  decided F.Mixed l e i = true-false (sym i ∙ mixed l refl .strings)
+  decided F.Absent l e i = true-false (sym e ∙ absent l refl)
 
 -- ---- counts that are well are within the buffers
 
@@ -132,7 +128,7 @@ module _ (angles ra dec pm : List Float) (n : Lengths) where
   fronts-by false enough m x y z k e w h i j l =
       let g : T.Counted n ≡ T.Miscounted = rw k at w in absurd (let o : _≡_ {A = ℕ} 0 1 = cc in omega arith)
 
-  pub fronts : {there : Bool} {xs before : List Float} (a r d p : Found) → Looks there xs before a angles → T.Counted n ≡ termsOf a r d p
+  fronts : {there numeric : Bool} {xs before : List Float} (a r d p : Found) → Looks there numeric xs before a angles → T.Counted n ≡ countedOf a r d p
       → length before ≡ ANGLES → length angles ≡ ANGLES → length ra ≡ COEFFICIENTS → length dec ≡ COEFFICIENTS → length pm ≡ COEFFICIENTS
       → Fronts n angles ra dec pm
   fronts (F.Count m) r d p f w b h i j l =
@@ -140,4 +136,24 @@ module _ (angles ra dec pm : List Float) (n : Lengths) where
       fronts-by (eqb (m % 2) 0) (leb (2 * longest (countOf r) (countOf d) (countOf p)) m) m (countOf r) (countOf d) (countOf p) refl refl w
       (omega (arith, c .count, c .roomy)) (omega arith) (omega arith) (omega arith)
   fronts F.TooMany r d p f w b h i j l = absurd (let o : _≡_ {A = ℕ} 0 1 = cc in omega arith)
+  fronts F.Mixed r d p f w b h i j l = absurd (let o : _≡_ {A = ℕ} 0 1 = cc in omega arith)
   fronts F.Absent r d p f w b h i j l = absurd (let o : _≡_ {A = ℕ} 0 1 = cc in omega arith)
+
+  fronts-of : {there numeric : Bool} {xs before : List Float} (t mixed u : Bool) (a r d p : Found) → isThere a ≡ t → anyStrange a r d p ≡ u
+      → Looks there numeric xs before a angles → T.Counted n ≡ termsOf mixed a r d p
+      → length before ≡ ANGLES → length angles ≡ ANGLES → length ra ≡ COEFFICIENTS → length dec ≡ COEFFICIENTS → length pm ≡ COEFFICIENTS
+      → Fronts n angles ra dec pm
+  fronts-of false mixed u a r d p e f l w b h i j o =
+      let g : T.Counted n ≡ T.Missing = rw e at w in absurd (let z : _≡_ {A = ℕ} 0 1 = cc in omega arith)
+  fronts-of true true u a r d p e f l w b h i j o =
+      let g : T.Counted n ≡ T.Mixed = rw e at w in absurd (let z : _≡_ {A = ℕ} 0 1 = cc in omega arith)
+  fronts-of true false true a r d p e f l w b h i j o =
+      let g : T.Counted n ≡ T.Mixed = rw (e, f) at w in absurd (let z : _≡_ {A = ℕ} 0 1 = cc in omega arith)
+  fronts-of true false false a r d p e f l w b h i j o = fronts a r d p l (rw (e, f) at w) b h i j o
+
+pub served : {there numeric : Bool} {xs before angles ra dec pm : List Float} (terms : Terms) (mixed : Bool) (a r d p : Found)
+    → Looks there numeric xs before a angles → terms ≡ termsOf mixed a r d p
+    → length before ≡ ANGLES → length angles ≡ ANGLES → length ra ≡ COEFFICIENTS → length dec ≡ COEFFICIENTS → length pm ≡ COEFFICIENTS
+    → Served terms angles ra dec pm
+served {angles = angles} {ra} {dec} {pm} terms mixed a r d p l e b h i j o =
+    record { fronts = λ n f. fronts-of angles ra dec pm n (isThere a) mixed (anyStrange a r d p) a r d p refl refl l (sym f ∙ e) b h i j o }

@@ -1,8 +1,8 @@
 -- `find_angles` meets its contract: where none are wanted, none are found and nothing is written. Assumes nothing.
 use borrow.Author.Needs.{needs}
-use Rattle.wanted.proofs.Found.{nothing}
-use Rattle.wanted.proofs.nutation.find_angles.Statement.{statement}
-use Rattle.wanted.proofs.nutation.find_angles.Tie as tie
+use Rattle.nutation.proofs.Looked.{nothing}
+use Rattle.nutation.proofs.found.find_angles.Statement.{statement}
+use Rattle.nutation.proofs.found.find_angles.Tie as tie
 
 find-requires : tie.Need-find-requires
 find-requires c κs = search needs

@@ -3,8 +3,8 @@ use mathlib.Core.Path.{_≡_, sym}
 use borrow.Author.Needs.{needs}
 use lib.ListN.{length, take}
 use lib.Seq.{length-take-le}
-use Rattle.wanted.proofs.nutation.evaluate.Statement.{statement}
-use Rattle.wanted.proofs.nutation.evaluate.Tie as tie
+use Rattle.nutation.proofs.answer.evaluate.Statement.{statement}
+use Rattle.nutation.proofs.answer.evaluate.Tie as tie
 
 slice-aggregate-evaluate : tie.Need-slice-aggregate-evaluate
 slice-aggregate-evaluate c = let s = c .before .before .before .before .before in sym (length-take-le (s .args .n .angles) (s .args .angles .now) (s .pre .inAngles))

@@ -4,10 +4,10 @@ use mathlib.Core.Path.{_≡_}
 use Prim.Native.Nat.{ℕ, _*_, _%_, _<_, max}
 use native.Mathlib.Omega.{arith}
 use borrow.Author.Tests.{eq-eqb, ne-eqb, le-leb, lt-leb}
-use Rattle.wanted.specs.Steps.{weighed}
-use Rattle.wanted.specs.declared.nutation.Terms.the-variants as T
-use Rattle.wanted.proofs.nutation.weigh.Statement.{statement}
-use Rattle.wanted.proofs.nutation.weigh.Tie as tie
+use Rattle.nutation.specs.Terms.{weighed}
+use Rattle.nutation.specs.declared.terms.Terms.the-variants as T
+use Rattle.nutation.proofs.terms.weigh.Statement.{statement}
+use Rattle.nutation.proofs.terms.weigh.Tie as tie
 
 -- an even number of angles, below twice the longest
 angles-too-few : (angles ra dec pm : ℕ) → angles % 2 ≡ 0 → angles < 2 * max ra (max dec pm) → T.Miscounted ≡ weighed angles ra dec pm
