@@ -1,8 +1,6 @@
 -- The sources are never blended: what is given is all of one source, because it is given exactly when that source has the elements, and a
 -- source is looked at alone. Assumes nothing.
-use mathlib.Core.Path.{_≡_, refl, sym, ap, _∙_}
-use Rattle.rotation.specs.declared.matrix.Oriented.{Oriented}
-use Rattle.rotation.specs.declared.table.Radii.{Radii}
+use mathlib.Core.Path.{refl, sym, ap, _∙_}
 use Rattle.globe.specs.Orientation.{orientationReply}
 use Rattle.globe.specs.Radii.{radiiReply}
 use Rattle.promises.specs.Calls.{asked, library}

@@ -20,13 +20,15 @@ use Rattle.decimal.specs.Form.{written}
 use Rattle.decimal.specs.Class.{reading}
 use Rattle.text.specs.Lines.{lines}
 use Rattle.text.specs.Delimiters.{markOf}
-use Rattle.text.specs.Values.{valueAt, item, itemsUpTo, rest, listed, givenAt}
-use Rattle.text.specs.Statements.{head}
+use Rattle.value.specs.Strings.{scanned, stringAt}
+use Rattle.value.specs.Value.{numberAt, valueAt}
+use Rattle.statement.specs.Values.{listValue, item, itemsUpTo, rest, listed, givenAt}
+use Rattle.statement.specs.Head.{head}
 use Rattle.text.specs.Line.{answered}
 use Rattle.text.specs.Text.{Read, readFrom, readText}
 use Rattle.layout.specs.State.{Pool, program, flat}
 use Rattle.layout.specs.Limits.{room}
-use Rattle.variables.specs.Variables.{any, since, variable, present}
+use Rattle.variables.specs.Variables.{any, since, variable, present, allNumbers, allStrings}
 use Rattle.pool.specs.Load.{held, textOf, loadAnswer}
 use Rattle.pool.specs.Remove.{without}
 use Rattle.pool.specs.declared.reply.Reply.{Reply}
@@ -38,12 +40,12 @@ computing x = x
 
 -- the reading of a value and of a text
 unfoldable pub reading-text : List ℕ → Read
-unfolding computing written reading past lines markOf valueAt item itemsUpTo rest listed givenAt head answered readFrom readText
+unfolding computing written reading past lines markOf scanned stringAt numberAt valueAt listValue item itemsUpTo rest listed givenAt head answered readFrom readText
 reading-text bytes = readText bytes
 
 -- a load into a pool, and its variables
 unfoldable pub loading : ℕ → List ℕ → Pool → Reply
-unfolding reading-text program flat room held textOf loadAnswer equal any since variable present without
+unfolding reading-text program flat room held textOf loadAnswer equal any since variable present allNumbers allStrings without
 loading label bytes s = loadAnswer label bytes s
 
 -- an evaluation, and the built-in table

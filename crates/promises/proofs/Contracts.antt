@@ -9,6 +9,7 @@ use Rattle.pool.specs.Empty.{emptyReply, clearReply}
 use Rattle.pool.specs.Load.{loadReply}
 use Rattle.pool.specs.Remove.{removeReply}
 use Rattle.pool.specs.Fetch.{fetchReply, fetchBuffer}
+use Rattle.pool.specs.FetchString.{stringReply, stringBuffer}
 use Rattle.pool.specs.Totals.{totalsReply}
 use Rattle.globe.specs.Orientation.{orientationReply}
 use Rattle.globe.specs.Radii.{radiiReply}
@@ -23,6 +24,7 @@ queries (C.load label bytes) m e = absurd (true≢false (sym e))
 queries (C.remove label) m e = absurd (true≢false (sym e))
 queries C.clear m e = absurd (true≢false (sym e))
 queries (C.fetch name buffer) m e = refl
+queries (C.fetchString name place buffer) m e = refl
 queries C.totals m e = refl
 queries (C.orientation source code epoch) m e = refl
 queries (C.radii source code) m e = refl
@@ -39,6 +41,11 @@ contracts = record {
     is = refl;
     contract = record { reply = refl; buffer = refl };
   };
+  fetchString = λ name place m buffer. record {
+    told = (stringReply name place (length buffer) m, stringBuffer name place m buffer);
+    is = refl;
+    contract = record { reply = refl; buffer = refl };
+  };
   totals = λ m. record { told = totalsReply m; is = refl; contract = record { reply = refl } };
   orientation = λ source m n epoch. record { told = orientationReply source m n epoch; is = refl; contract = record { reply = refl } };
   radii = λ source m n. record { told = radiiReply source m n; is = refl; contract = record { reply = refl } };
@@ -52,6 +59,7 @@ no-second-answer = record {
   remove = λ label before r r′ after after′ p q. (cc, cc);
   clear = λ before r r′ after after′ p q. (cc, cc);
   fetch = λ name memory before r r′ after after′ p q. (cc, cc);
+  fetchString = λ name place memory before r r′ after after′ p q. (cc, cc);
   totals = λ memory r r′ p q. cc;
   orientation = λ source memory n epoch r r′ p q. cc;
   radii = λ source memory n r r′ p q. cc;

@@ -52,6 +52,8 @@ step-keeps (C.remove label) ks = by (held label (map text ks))
     by false = refl
 step-keeps C.clear ks = refl
 step-keeps (C.fetch name buffer) ks = ap (map text) (sym (either (accepted (says (C.fetch name buffer) (map text ks))) ks))
+step-keeps (C.fetchString name place buffer) ks =
+    ap (map text) (sym (either (accepted (says (C.fetchString name place buffer) (map text ks))) ks))
 step-keeps C.totals ks = refl
 step-keeps (C.orientation source code epoch) ks = ap (map text) (sym (either (accepted (says (C.orientation source code epoch) (map text ks))) ks))
 step-keeps (C.radii source code) ks = ap (map text) (sym (either (accepted (says (C.radii source code) (map text ks))) ks))
@@ -72,6 +74,7 @@ together-keeps (C.remove label) ks g = by (held label (map text ks))
     by false = g
 together-keeps C.clear ks g = together-none
 together-keeps (C.fetch name buffer) ks g = rw (either (accepted (says (C.fetch name buffer) (map text ks))) ks) g
+together-keeps (C.fetchString name place buffer) ks g = rw (either (accepted (says (C.fetchString name place buffer) (map text ks))) ks) g
 together-keeps C.totals ks g = g
 together-keeps (C.orientation source code epoch) ks g = rw (either (accepted (says (C.orientation source code epoch) (map text ks))) ks) g
 together-keeps (C.radii source code) ks g = rw (either (accepted (says (C.radii source code) (map text ks))) ks) g
@@ -171,6 +174,7 @@ unfolding says
 of-held-texts =
     record {
       variables = λ m f history name buffer. answered m f history (C.fetch name buffer);
+      strings = λ m f history name place buffer. answered m f history (C.fetchString name place buffer);
       sums = λ m f history. answered m f history C.totals;
     }
   where

@@ -25,7 +25,7 @@ use Rattle.rotation.specs.declared.table.Size.the-variants.{Known, NoSize}
 use Rattle.layout.specs.State.{Pool}
 use Rattle.layout.specs.Memory.{decode}
 use Rattle.layout.specs.Damage.{sound}
-use Rattle.wanted.specs.Elements.{there, list}
+use Rattle.wanted.specs.Elements.{there, numeric, list}
 use Rattle.globe.specs.Radii.{axes, bySystem, radiiFrom, radiiReply}
 use Rattle.wanted.specs.declared.name.Wanted.the-variants as W
 use Rattle.globe.specs.declared.source.Source.the-variants as S
@@ -45,17 +45,29 @@ three-axes (p ∷ q ∷ r ∷ t ∷ xs) x l e = absurd (omega arith)
 -- ---- from a pool
 
 module _ (s : Pool) (n : ℕ) (x : Axes) where
-  by-count : (k : ℕ) (b : Bool) → eqb (length (list s n W.Radii)) 3 ≡ b → systemOf n ≡ Of k → there s n W.Radii ≡ true
-      → (if b then Given (axes (list s n W.Radii)) else Refused Q.WrongCount) ≡ Given x → HasRadii s n x
-  by-count k true w l t e =
+  by-count : (k : ℕ) (a b : Bool) → numeric s n W.Radii ≡ a → eqb (length (list s n W.Radii)) 3 ≡ b → systemOf n ≡ Of k → there s n W.Radii ≡ true
+      → (if a then (if b then Given (axes (list s n W.Radii)) else Refused Q.WrongCount) else Refused Q.MixedKind) ≡ Given x → HasRadii s n x
+  by-count k true true u w l t e =
       let y : axes (list s n W.Radii) ≡ x = cc in
-      record { system = k; legal = l; some = t; three = three-axes (list s n W.Radii) x (eqb-true (length (list s n W.Radii)) 3 w) y }
-  by-count k false w l t e = never e
+      record {
+        system = k;
+        legal = l;
+        some = t;
+        kinds = u;
+        three = three-axes (list s n W.Radii) x (eqb-true (length (list s n W.Radii)) 3 w) y;
+      }
+  by-count k true false u w l t e = never e
+  by-count k false b u w l t e = never e
 
   by-presence : (k : ℕ) (b : Bool) → there s n W.Radii ≡ b → systemOf n ≡ Of k
-      → (if b then (if eqb (length (list s n W.Radii)) 3 then Given (axes (list s n W.Radii)) else Refused Q.WrongCount) else Refused Q.UnknownBody) ≡ Given x
+      → (if b
+      then (if numeric s n W.Radii
+      then (if eqb (length (list s n W.Radii)) 3 then Given (axes (list s n W.Radii)) else Refused Q.WrongCount)
+      else Refused Q.MixedKind)
+      else Refused Q.UnknownBody)
+      ≡ Given x
       → HasRadii s n x
-  by-presence k true t l e = by-count k (eqb (length (list s n W.Radii)) 3) refl l t e
+  by-presence k true t l e = by-count k (numeric s n W.Radii) (eqb (length (list s n W.Radii)) 3) refl refl l t e
   by-presence k false t l e = never e
 
   by-code : (y : System) → systemOf n ≡ y → bySystem s n y ≡ Given x → HasRadii s n x
@@ -68,7 +80,7 @@ module _ (s : Pool) (n : ℕ) (x : Axes) where
 
   given-radii : HasRadii s n x → radiiFrom s n ≡ Given x
   unfolding radiiFrom
-  given-radii h = rw (h .legal, h .some, h .three) refl
+  given-radii h = rw (h .legal, h .some, h .kinds, h .three) refl
 
 module _ (m : List ℕ) (n : ℕ) (x : Axes) where
   by-damage : (b : Bool) → sound m ≡ b → (if b then radiiFrom (decode m) n else Refused Q.DamagedPool) ≡ Given x

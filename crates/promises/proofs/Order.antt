@@ -1,12 +1,12 @@
 -- Each refusal is given in its turn: a call asks its questions in document 01's order, so that the first condition that holds decides.
 -- Assumes nothing.
-use Prim.Native.Nat.{ℕ, _≤_, _<_}
-use mathlib.Core.Path.{_≡_, refl, sym, ap, subst}
+use Prim.Native.Nat.{ℕ}
+use mathlib.Core.Path.{_≡_, refl, sym}
 use mathlib.Core.Bool.{true, false, true≢false}
 use mathlib.Core.List.{List}
 use borrow.Author.Tests.{lt-ltb, le-ltb, lt-leb}
-use lib.Ieee.{Float, binary64, ofBits}
-use lib.ListN.{length, length-map}
+use lib.Ieee.{Float}
+use lib.ListN.{length}
 use Rattle.refusal.specs.Numbers.{numberOf}
 use Rattle.refusal.specs.declared.Refusal.the-variants as Q
 use Rattle.rotation.specs.Epochs.{inReach}
@@ -19,27 +19,30 @@ use Rattle.rotation.specs.declared.table.Row.the-variants.{NoRow}
 use Rattle.layout.specs.Limits.{LONGEST-LOAD}
 use Rattle.layout.specs.Memory.{decode}
 use Rattle.layout.specs.Damage.{sound}
-use Rattle.variables.specs.Variables.{variable, present}
-use Rattle.variables.specs.Found.{doubles, foundIn}
+use Rattle.variables.specs.Variables.{variable}
+use Rattle.variables.specs.Found.{foundIn}
+use Rattle.variables.specs.Spelled.{stringOf, spelledIn}
 use Rattle.pool.specs.Empty.{emptyReply, clearReply}
 use Rattle.pool.specs.Load.{loadAnswer, loadReply}
 use Rattle.pool.specs.Remove.{removeReply}
 use Rattle.pool.specs.Fetch.{fetchReply}
+use Rattle.pool.specs.FetchString.{stringReply}
 use Rattle.pool.specs.Totals.{totalsReply}
 use Rattle.globe.specs.Orientation.{orientationFrom, orientationReply}
 use Rattle.globe.specs.Radii.{radiiFrom, radiiReply}
 use Rattle.globe.specs.declared.source.Source.the-variants as S
 use Rattle.promises.specs.Calls as C
 use Rattle.promises.specs.Calls.{Call, number, asked, library}
-use Rattle.promises.specs.Order.{Refuses, usesPool, LoadOrder, FetchOrder, OrientationOrder, RadiiOrder, InOrder}
+use Rattle.promises.specs.Order.{Refuses, usesPool, LoadOrder, FetchOrder, StringOrder, OrientationOrder, RadiiOrder, InOrder}
 
 damaged : (c : Call) (m : List ℕ) → usesPool c ≡ true → sound m ≡ false → Refuses library c m Q.DamagedPool
-unfolding asked loadReply removeReply clearReply fetchReply totalsReply orientationReply radiiReply
+unfolding asked loadReply removeReply clearReply fetchReply stringReply totalsReply orientationReply radiiReply
 damaged C.makeEmpty m u e = absurd (true≢false (sym u))
 damaged (C.load label bytes) m u e = rw e
 damaged (C.remove label) m u e = rw e
 damaged C.clear m u e = rw e
 damaged (C.fetch name buffer) m u e = rw e
+damaged (C.fetchString name place buffer) m u e = rw e
 damaged C.totals m u e = rw e
 damaged (C.orientation S.Pool code epoch) m u e = rw e
 damaged (C.orientation S.Builtin code epoch) m u e = absurd (true≢false (sym u))
@@ -61,10 +64,17 @@ unfolding asked fetchReply foundIn
 fetches name buffer m e =
     record {
       noVariable = λ p. simp (e, p);
-      shortBuffer = λ p l.
-          let few : length buffer < length (variable name (decode m)) =
-          subst (λ (k : ℕ). length buffer < k) (length-map (variable name (decode m)) (ofBits binary64)) l in
-          simp (e, p, lt-leb (length (variable name (decode m))) (length buffer) few);
+      mixedKind = λ p k. simp (e, p, k);
+      shortBuffer = λ p k l. simp (e, p, k, lt-leb (length (variable name (decode m))) (length buffer) l);
+    }
+
+strings : (name : List ℕ) (place : ℕ) (buffer m : List ℕ) → sound m ≡ true → StringOrder library name place buffer m
+unfolding asked stringReply spelledIn
+strings name place buffer m e =
+    record {
+      noVariable = λ p. simp (e, p);
+      mixedKind = λ p k. simp (e, p, k);
+      shortBuffer = λ p k l. simp (e, p, k, lt-leb (length (stringOf place (variable name (decode m)))) (length buffer) l);
     }
 
 orientations : (n : ℕ) (epoch : Float) (m : List ℕ) → sound m ≡ true → OrientationOrder library n epoch m
@@ -75,12 +85,19 @@ orientations n epoch m e =
       noCode = λ r s. simp (e, r, s);
       noBody = λ k r s b. simp (e, r, s, b);
       incomplete = λ k r s b c. simp (e, r, s, b, c);
-      wrongCount = λ k r s b c w. simp (e, r, s, b, c, w);
+      mixedKind = λ k r s b c x. simp (e, r, s, b, c, x);
+      wrongCount = λ k r s b c x w. simp (e, r, s, b, c, x, w);
     }
 
 radii : (n : ℕ) (m : List ℕ) → sound m ≡ true → RadiiOrder library n m
 unfolding asked radiiReply radiiFrom
-radii n m e = record { noCode = λ s. simp (e, s); noBody = λ k s t. simp (e, s, t); wrongCount = λ k s t c. simp (e, s, t, c) }
+radii n m e =
+    record {
+      noCode = λ s. simp (e, s);
+      noBody = λ k s t. simp (e, s, t);
+      mixedKind = λ k s t x. simp (e, s, t, x);
+      wrongCount = λ k s t x c. simp (e, s, t, x, c);
+    }
 
 table-rows : (n : ℕ) (epoch : Float) (m : List ℕ) → inReach epoch ≡ true → rowOf n ≡ NoRow → Refuses library (C.orientation S.Builtin n epoch) m Q.UnknownBody
 unfolding asked orientationReply builtinOrientation
@@ -99,6 +116,7 @@ in-order =
       loads = loads;
       notHeld = λ label m e h. simp (e, h);
       fetches = fetches;
+      strings = strings;
       orientations = orientations;
       radii = radii;
       tableEpochs = λ n epoch m r. rw r;

@@ -3,10 +3,10 @@ use Prim.Native.Nat.{ℕ, zero, suc, _*_, _%_, _≤_, max}
 use native.Mathlib.Omega.{arith}
 use mathlib.Core.Path.{_≡_, refl, sym, ap, subst}
 use mathlib.Core.Bool.{Bool, true, false, _&&_, _||_}
-use mathlib.Core.List.{List, [], _∷_, map}
+use mathlib.Core.List.{List, [], _∷_}
 use borrow.Author.Tests.{leb-true}
 use lib.Dec.{eqb, leb, lit<, lit≤}
-use lib.Ieee.{Float, nan, binary64, round, ofBits}
+use lib.Ieee.{Float, nan, round}
 use lib.ListN.{length, getD}
 use Rattle.plain.specs.Choice.{if_then_else_}
 use Rattle.plain.specs.Doubles.{printed}
@@ -25,17 +25,17 @@ use Rattle.rotation.specs.declared.matrix.Oriented.the-variants as O
 use Rattle.rotation.specs.declared.table.Row.the-variants.{Held}
 use Rattle.rotation.proofs.Overflow.{never-overflows}
 use Rattle.rotation.proofs.Answers.{row-never-overflows, builtin-finite}
-use Rattle.text.specs.Statements.{Statement}
-use Rattle.plain.proofs.Each.{Each, each-append, each-map, each-at, each-weaken}
+use Rattle.statement.specs.Statements.{Values, numbers, strings, Statement}
+use Rattle.plain.proofs.Each.{Each, each-append, each-at, each-weaken}
 use Rattle.plain.proofs.Tests.{both, true-false}
 use Rattle.layout.specs.State.{Pool, program, flat}
 use Rattle.layout.specs.Memory.{decode}
 use Rattle.layout.specs.Damage.{small}
 use Rattle.layout.proofs.Sound.{sound-of}
-use Rattle.layout.proofs.Legal.{Fair}
+use Rattle.layout.proofs.Legal.{Fair, FairValues}
 use Rattle.layout.proofs.Holds.{decode-legal}
-use Rattle.variables.specs.Variables.{has, assigns, any, since, gives, variable, present}
-use Rattle.variables.specs.Found.{doubles}
+use Rattle.variables.specs.Variables.{Datum, number, string, has, assigns, any, since, each, gives, variable, present}
+use Rattle.variables.specs.Found.{numbersAmong, doubles}
 use Rattle.variables.proofs.Presence.{absent-empty}
 use Rattle.wanted.specs.Names.{nameOf}
 use Rattle.wanted.specs.Elements.{there, list, ANGLES, polynomial, elements, fewValues, nutating, enoughAngles, wellCounted, angles}
@@ -51,11 +51,24 @@ use Rattle.promises.proofs.Oriented.{given-exactly, builtin-exactly}
 
 -- ---- the values of a variable
 
-abbrev SmallBits : ℕ → Type 0
-SmallBits w = small w ≡ true
+-- a number is small; nothing is asked of a string
+abbrev SmallDatum : Datum → Type 0
+SmallDatum (number w) = small w ≡ true
+SmallDatum (string s) = Unit {0}
 
 abbrev pub SmallStatement : Statement → Type 0
-SmallStatement x = Each SmallBits (x .values)
+SmallStatement x = FairValues (x .values)
+
+each-small : (v : Values) → FairValues v → Each SmallDatum (each v)
+each-small (numbers []) f = tt
+each-small (numbers (w ∷ ws)) f = (f .0, each-small (numbers ws) (f .1))
+each-small (strings []) f = tt
+each-small (strings (s ∷ ss)) f = (tt, each-small (strings ss) (f .1))
+
+among-under : (vs : List Datum) → Each SmallDatum vs → Each (Under 200) (numbersAmong vs)
+among-under [] f = tt
+among-under (number w ∷ vs) f = (record { is = small-below w (f .0) }, among-under vs (f .1))
+among-under (string s ∷ vs) f = among-under vs (f .1)
 
 module _ (name : List ℕ) where
   each-since : (ss : List Statement) → Each SmallStatement ss → Each SmallStatement (since name ss)
@@ -67,24 +80,22 @@ module _ (name : List ℕ) where
       by true g = g
       by false g = f
 
-  given-small : (ss : List Statement) → Each SmallStatement ss → Each SmallBits (flat (gives name) ss)
+  given-small : (ss : List Statement) → Each SmallStatement ss → Each SmallDatum (flat (gives name) ss)
   unfolding flat
   given-small [] f = tt
-  given-small (s ∷ ss) f = each-append SmallBits (gives name s) (flat (gives name) ss) (by (has name s)) (given-small ss (f .1))
+  given-small (s ∷ ss) f = each-append SmallDatum (gives name s) (flat (gives name) ss) (by (has name s)) (given-small ss (f .1))
     where
-      by : (b : Bool) → Each SmallBits (if b then s .values else [])
-      by true = f .0
+      by : (b : Bool) → Each SmallDatum (if b then each (s .values) else [])
+      by true = each-small (s .values) (f .0)
       by false = tt
 
   doubles-under : (s : Pool) → Each SmallStatement (program s) → Each (Under 200) (doubles name s)
   unfolding variable
   doubles-under s f =
-      let g = given-small (since name (program s)) (each-since (program s) f) in
-      each-map (Under 200) (ofBits binary64) (variable name s)
-      (each-weaken SmallBits (λ w. Under 200 (ofBits binary64 w)) (λ w e. record { is = small-below w e }) (variable name s) g)
+      among-under (variable name s) (given-small (since name (program s)) (each-since (program s) f))
 
 absent-none : (name : List ℕ) (s : Pool) → present name s ≡ false → doubles name s ≡ []
-absent-none name s e = ap (map (ofBits binary64)) (absent-empty name s e)
+absent-none name s e = ap numbersAmong (absent-empty name s e)
 
 -- ---- a body's polynomials and coefficients
 
@@ -176,7 +187,7 @@ module _ (m : List ℕ) (n : ℕ) (epoch : Float) (o : Orientation) where
       let legal = h .1 .legal in
       let same : h .1 .system ≡ k = cc in
       never-overflows _ epoch _ _ _ _ (h .1 .reach)
-      (small-input (decode m) n k (each-weaken Fair SmallStatement (λ x g. g .small) (program (decode m)) fair)
+      (small-input (decode m) n k (each-weaken Fair SmallStatement (λ x g. g .values) (program (decode m)) fair)
       (subst (λ (i : ℕ). wellCounted (decode m) n i ≡ true) same (h .1 .counts)))
 
   table-steps : (row : Elements) → orientationReply S.Builtin m n epoch ≡ O.Given o → rowOf n ≡ Held row

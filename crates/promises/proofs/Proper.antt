@@ -6,7 +6,7 @@ use mathlib.Core.List.{List, [], _∷_, _++_, map}
 use borrow.Author.Tests.{ne-eqb, eqb-false}
 use lib.Dec.{eqb}
 use Rattle.plain.specs.Choice.{if_then_else_}
-use Rattle.text.specs.Statements.{Statement}
+use Rattle.statement.specs.Statements.{Statement}
 use Rattle.words.proofs.Halves.{Different}
 use Rattle.plain.proofs.Each.{Each, each-append, each-left, each-right}
 use Rattle.layout.specs.State.{Text, Pool, program}

@@ -1,6 +1,6 @@
 -- A refusal changes nothing: every call writes only under its success. Assumes nothing.
 use Prim.Native.Nat.{ℕ}
-use mathlib.Core.Path.{_≡_, refl}
+use mathlib.Core.Path.{_≡_, refl, ap}
 use mathlib.Core.Bool.{Bool, true, false, true≢false}
 use mathlib.Core.List.{List, []}
 use lib.Dec.{eqb}
@@ -16,14 +16,17 @@ use Rattle.pool.specs.Replies.{replyNumber, fetchedNumber, done}
 use Rattle.pool.specs.Empty.{emptyReply, clearReply}
 use Rattle.pool.specs.Load.{textOf, with, loadReply, loadMemory}
 use Rattle.pool.specs.Remove.{without, removeReply, removeMemory}
+use Rattle.variables.specs.Variables.{variable}
 use Rattle.variables.specs.Found.{doubles, foundIn, filled}
+use Rattle.variables.specs.Spelled.{stringOf, spelledIn}
 use Rattle.pool.specs.Fetch.{fetched, fetchReply, fetchBuffer}
+use Rattle.pool.specs.FetchString.{stringReply, stringBuffer}
 use Rattle.pool.specs.declared.reply.Reply.{Reply}
 use Rattle.pool.specs.declared.reply.Reply.the-variants as R
 use Rattle.pool.specs.declared.reply.Fetched.the-variants as F
 use Rattle.variables.specs.declared.variable.Found.{Found}
 use Rattle.variables.specs.declared.variable.Found.the-variants as W
-use Rattle.promises.specs.Calls.{makeEmpty, load, remove, clear, fetch, totals, orientation, radii, asked, leaves, library}
+use Rattle.promises.specs.Calls.{makeEmpty, load, remove, clear, fetch, fetchString, totals, orientation, radii, asked, leaves, library}
 use Rattle.promises.specs.Demands.{RefusalChangesNothing}
 
 -- no refusal has the number of success
@@ -43,6 +46,7 @@ refused-number Q.WrongCount = refl
 refused-number Q.NoVariable = refl
 refused-number Q.ShortBuffer = refl
 refused-number Q.DamagedPool = refl
+refused-number Q.MixedKind = refl
 
 -- a call that changes the pool is accepted exactly when it is done
 pub accepted-done : (r : Reply) → eqb (replyNumber r) SUCCESS ≡ done r
@@ -54,22 +58,31 @@ unwritten : (r : Reply) (after before : List ℕ) → eqb (replyNumber r) SUCCES
 unwritten R.Done after before e = absurd (true≢false e)
 unwritten (R.Refused q line) after before e = refl
 
--- a buffer that is written only where the pool is undamaged and the variable is found in its room
-untouched : (b : Bool) (r : Found) (xs buffer : List Float)
+-- a buffer that is written only where the pool is undamaged and what is asked for is found, with room for it
+untouched : {A : Type 0} (b : Bool) (r : Found) (xs buffer : List A)
     → eqb (fetchedNumber (if b then fetched r else F.Refused Q.DamagedPool)) SUCCESS ≡ false → (if b then filled r xs buffer else buffer) ≡ buffer
 untouched true (W.Count n) xs buffer e = absurd (true≢false e)
 untouched true W.TooMany xs buffer e = refl
+untouched true W.Mixed xs buffer e = refl
 untouched true W.Absent xs buffer e = refl
 untouched false r xs buffer e = refl
 
 pub refusal-changes-nothing : RefusalChangesNothing library
-unfolding asked leaves loadMemory removeMemory fetchReply fetchBuffer
+unfolding asked leaves loadMemory removeMemory fetchReply fetchBuffer stringReply stringBuffer
 refusal-changes-nothing makeEmpty m e = (unwritten (emptyReply m) (put [] m) m e, refl)
 refusal-changes-nothing (load label bytes) m e = (unwritten (loadReply label bytes m) (put (with (decode m) (textOf label bytes)) m) m e, refl)
 refusal-changes-nothing (remove label) m e = (unwritten (removeReply label m) (put (without label (decode m)) m) m e, refl)
 refusal-changes-nothing clear m e = (unwritten (clearReply m) (put [] m) m e, refl)
-refusal-changes-nothing (fetch name buffer) m e =
-    (refl, untouched (sound m) (foundIn name (length buffer) (decode m)) (doubles name (decode m)) buffer e)
+refusal-changes-nothing (fetch name buffer) m e = (
+  refl,
+  ap (λ (xs : List Float). record { values = xs; bytes = [] }) (untouched (sound m) (foundIn name (length buffer) (decode m)) (doubles name (decode m)) buffer e),
+)
+refusal-changes-nothing (fetchString name place buffer) m e =
+    let s = decode m in (
+      refl,
+      ap (λ (bs : List ℕ). record { values = []; bytes = bs })
+          (untouched (sound m) (spelledIn name place (length buffer) s) (stringOf place (variable name s)) buffer e),
+    )
 refusal-changes-nothing totals m e = (refl, refl)
 refusal-changes-nothing (orientation source code epoch) m e = (refl, refl)
 refusal-changes-nothing (radii source code) m e = (refl, refl)

@@ -14,10 +14,10 @@ use Rattle.refusal.specs.declared.Refusal.{Refusal}
 use Rattle.refusal.specs.declared.Refusal.the-variants as Q
 use Rattle.rotation.specs.declared.matrix.Oriented.the-variants as O
 use Rattle.rotation.specs.declared.table.Radii.the-variants as A
-use Rattle.text.specs.Faults.{refusalOf}
+use Rattle.value.specs.Faults.{refusalOf}
 use Rattle.text.specs.Text.{Read, fine, refused, readText}
-use Rattle.text.specs.declared.faults.Fault.{Fault}
-use Rattle.text.specs.declared.faults.Fault.the-variants as F
+use Rattle.value.specs.declared.faults.Fault.{Fault}
+use Rattle.value.specs.declared.faults.Fault.the-variants as F
 use Rattle.text.proofs.FirstFault.{number-within}
 use Rattle.layout.specs.Limits.{room, LONGEST-LOAD}
 use Rattle.layout.specs.Memory.{decode}
@@ -94,6 +94,7 @@ others (C.load label bytes) m e = load-lined label bytes m .others e
 others (C.remove label) m e = remove-lined label m .others e
 others C.clear m e = clear-lined m .others e
 others (C.fetch name buffer) m e = refl
+others (C.fetchString name place buffer) m e = refl
 others C.totals m e = refl
 others (C.orientation source code epoch) m e = refl
 others (C.radii source code) m e = refl
@@ -146,6 +147,7 @@ success : (a : Answer) → accepted a ≡ true → line a ≡ 0
 success (C.replied R.Done) e = refl
 success (C.replied (R.Refused q n)) e = absurd (true≢false (sym e ∙ refused-number q))
 success (C.fetched r buffer) e = refl
+success (C.spelled r buffer) e = refl
 success (C.counted r) e = refl
 success (C.oriented r) e = refl
 success (C.measured r) e = refl
@@ -154,6 +156,8 @@ no-values : (a : Answer) → accepted a ≡ false → (count a ≡ 0) × (double
 no-values (C.replied r) e = (refl, refl, refl)
 no-values (C.fetched (W.Count n) buffer) e = absurd (true≢false e)
 no-values (C.fetched (W.Refused q) buffer) e = (refl, refl, refl)
+no-values (C.spelled (W.Count n) buffer) e = absurd (true≢false e)
+no-values (C.spelled (W.Refused q) buffer) e = (refl, refl, refl)
 no-values (C.counted (T.Held a b c)) e = absurd (true≢false e)
 no-values (C.counted (T.Refused q)) e = (refl, refl, refl)
 no-values (C.oriented (O.Given o)) e = absurd (true≢false e)

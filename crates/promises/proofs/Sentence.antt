@@ -6,15 +6,15 @@ use mathlib.Core.Bool.{Bool, true, false, _&&_}
 use mathlib.Core.Logic.{inl, inr}
 use mathlib.Core.List.{List, [], _∷_, _++_, append-assoc, append-nil}
 use Rattle.plain.specs.Choice.{if_then_else_}
-use Rattle.text.specs.Statements.{Statement}
+use Rattle.statement.specs.Statements.{Statement}
 use Rattle.plain.proofs.Tests.{true-false}
 use Rattle.layout.specs.State.{program, flat}
-use Rattle.variables.specs.Variables.{isDirect, has, assigns, any, since, gives, variable}
+use Rattle.variables.specs.Variables.{Datum, isDirect, has, assigns, any, since, each, gives, variable}
 use Rattle.variables.proofs.Since.{since-all}
 use Rattle.promises.specs.Sentence.{given, Said, Sentence, onto, forward, Forward}
 
 -- a statement with the name or without it, direct or appending, before a direct assignment or before none
-cases : (h d b : Bool) (v xs since rest : List ℕ)
+cases : (h d b : Bool) (v xs since rest : List Datum)
     → (if b then since else ((if h then (if d then v else xs ++ v) else xs) ++ rest))
     ≡ (if (if h && d then true else b) then (if b then since else ((if h then v else []) ++ rest)) else (xs ++ ((if h then v else []) ++ rest)))
 cases true true true v xs since rest = refl
@@ -30,14 +30,14 @@ module _ (name : List ℕ) where
   -- ---- the sentence
 
   -- a direct assignment has the name
-  direct-gives : (s : Statement) → assigns name s ≡ true → gives name s ≡ s .values
+  direct-gives : (s : Statement) → assigns name s ≡ true → gives name s ≡ each (s .values)
   direct-gives s e = by (has name s) (isDirect (s .operator)) e
     where
-      by : (b d : Bool) → (b && d) ≡ true → (if b then s .values else []) ≡ s .values
+      by : (b d : Bool) → (b && d) ≡ true → (if b then each (s .values) else []) ≡ each (s .values)
       by true d e = refl
       by false d e = true-false (sym e)
 
-  said-behind : (s : Statement) (ss : List Statement) (xs : List ℕ) → any (assigns name) ss ≡ true → Said name ss xs → Said name (s ∷ ss) xs
+  said-behind : (s : Statement) (ss : List Statement) (xs : List Datum) → any (assigns name) ss ≡ true → Said name ss xs → Said name (s ∷ ss) xs
   said-behind s ss xs e (inl l) = inl (record {
     before = s ∷ l .before;
     last = l .last;
@@ -52,7 +52,7 @@ module _ (name : List ℕ) where
   said-first : (s : Statement) (ss : List Statement) (b : Bool) → any (assigns name) ss ≡ false → assigns name s ≡ b → Said name (s ∷ ss) (gives name s ++ given name ss)
   unfolding any flat
   said-first s ss true e d =
-      inl (record { before = []; last = s; later = ss; order = refl; direct = d; none = e; are = ap (λ (xs : List ℕ). xs ++ given name ss) (direct-gives s d) })
+      inl (record { before = []; last = s; later = ss; order = refl; direct = d; none = e; are = ap (λ (xs : List Datum). xs ++ given name ss) (direct-gives s d) })
   said-first s ss false e d = inr (record { none = rw d e; are = refl })
 
   said : (ss : List Statement) → Said name ss (given name (since name ss))
@@ -74,13 +74,13 @@ module _ (name : List ℕ) where
   since-cons s ss false e = rw e
 
   -- the values before count unless there is a direct assignment
-  forward-since : (ss : List Statement) (xs : List ℕ) → forward name xs ss ≡ (if any (assigns name) ss then given name (since name ss) else (xs ++ given name ss))
+  forward-since : (ss : List Statement) (xs : List Datum) → forward name xs ss ≡ (if any (assigns name) ss then given name (since name ss) else (xs ++ given name ss))
   unfolding forward any flat
   forward-since [] xs = sym (append-nil xs)
   forward-since (s ∷ ss) xs =
       forward-since ss (onto name xs s)
-      ∙ cases (has name s) (isDirect (s .operator)) (any (assigns name) ss) (s .values) xs (given name (since name ss)) (given name ss)
-      ∙ ap (λ (l : List ℕ). if (if assigns name s then true else any (assigns name) ss) then l else (xs ++ (gives name s ++ given name ss)))
+      ∙ cases (has name s) (isDirect (s .operator)) (any (assigns name) ss) (each (s .values)) xs (given name (since name ss)) (given name ss)
+      ∙ ap (λ (l : List Datum). if (if assigns name s then true else any (assigns name) ss) then l else (xs ++ (gives name s ++ given name ss)))
       (sym (since-cons s ss (any (assigns name) ss) refl))
 
   pub forward-variable : (ss : List Statement) → given name (since name ss) ≡ forward name [] ss

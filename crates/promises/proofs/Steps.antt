@@ -6,7 +6,7 @@ use mathlib.Core.Bool.{Bool, true, false, true≢false}
 use mathlib.Core.List.{List, []}
 use lib.ListN.{length}
 use Rattle.plain.specs.Choice.{if_then_else_}
-use Rattle.text.specs.Statements.{statements}
+use Rattle.statement.specs.Statements.{statements}
 use Rattle.text.specs.Text.{Read, fine, refused, readText, added}
 use Rattle.plain.proofs.Each.{Each}
 use Rattle.refusal.specs.declared.Refusal.the-variants.{NotHeld}
@@ -38,6 +38,7 @@ step (C.load label bytes) s = if done (loadAnswer label bytes s) then with s (te
 step (C.remove label) s = if held label s then without label s else s
 step C.clear s = []
 step (C.fetch name buffer) s = s
+step (C.fetchString name place buffer) s = s
 step C.totals s = s
 step (C.orientation source code epoch) s = s
 step (C.radii source code) s = s
@@ -98,6 +99,7 @@ module _ (m : List ℕ) (e : sound m ≡ true) where
   leaves-is (C.remove label) = rw e (remove-is label (held label (decode m)))
   leaves-is C.clear = rw e (emptied-is m (sound-size m e))
   leaves-is (C.fetch name buffer) = unchanged
+  leaves-is (C.fetchString name place buffer) = unchanged
   leaves-is C.totals = unchanged
   leaves-is (C.orientation source code epoch) = unchanged
   leaves-is (C.radii source code) = unchanged

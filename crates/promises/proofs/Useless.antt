@@ -11,7 +11,7 @@ use lib.ListN.{length}
 use Rattle.plain.specs.Doubles.{printed, nought}
 use Rattle.rotation.specs.declared.matrix.Orientation.{Orientation}
 use Rattle.rotation.specs.declared.table.Axes.{Axes}
-use Rattle.text.specs.Faults.{refusalOf}
+use Rattle.value.specs.Faults.{refusalOf}
 use Rattle.layout.specs.Memory.{decode}
 use Rattle.plain.proofs.Tests.{both}
 use Rattle.pool.specs.Replies.{countsTexts}

@@ -25,7 +25,9 @@ use Rattle.pool.specs.Empty.{Empties, Clears, emptyReply, clearReply}
 use Rattle.pool.specs.Load.{Loads, loadReply, loadMemory}
 use Rattle.pool.specs.Remove.{Removes, removeReply}
 use Rattle.pool.specs.Fetch.{Fetches, fetchReply, fetchBuffer}
+use Rattle.pool.specs.FetchString.{FetchesString, stringReply, stringBuffer}
 use Rattle.variables.specs.Found.{foundIn}
+use Rattle.variables.specs.Spelled.{spelledIn}
 use Rattle.pool.specs.Totals.{Totals, totalsReply}
 use Rattle.pool.specs.declared.reply.Reply.the-variants.{Done}
 use Rattle.pool.specs.declared.reply.Fetched.{Fetched}
@@ -46,7 +48,7 @@ first m = getD m 0 0
 
 -- a memory whose first total is 1
 abbrev oneText : List ℕ
-oneText = 1 ∷ replicate 5650 0
+oneText = 1 ∷ replicate 6675 0
 
 -- ---- make empty: a memory of the fixed size is not refused; the totals are written
 
@@ -111,6 +113,21 @@ unfolding fetchBuffer foundIn loading isNan
 fetch-written r c =
     let e : fetchBuffer (ascii "X") noughts (nan ∷ []) ≡ nan ∷ [] = rw (noughts-sound, noughts-empty) in
     true≢false (sym (ap (λ (xs : List Float). isNan (getD xs 0 nan)) (c .buffer ∙ e)))
+
+-- ---- fetch of a string: the same, of a lent buffer of bytes
+
+pub string-granted : (n : ℕ) (buffer after : List ℕ) → FetchesString (ascii "X") 1 noughts buffer (F.Count n) after → ⊥
+unfolding stringReply spelledIn loading
+string-granted n buffer after c = never (number-of (c .reply ∙ rw (noughts-sound, noughts-empty)))
+  where
+    number-of : F.Count n ≡ F.Refused Q.NoVariable → _≡_ {A = ℕ} 0 1
+    number-of e = cc
+
+pub string-written : (r : Fetched) → FetchesString (ascii "X") 1 noughts (0 ∷ []) r (1 ∷ []) → ⊥
+unfolding stringBuffer spelledIn loading
+string-written r c =
+    let e : stringBuffer (ascii "X") 1 noughts (0 ∷ []) ≡ 0 ∷ [] = rw (noughts-sound, noughts-empty) in
+    never (sym (ap first (c .buffer ∙ e)))
 
 -- ---- totals: an empty pool has none; a damaged one is refused
 

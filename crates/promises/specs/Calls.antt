@@ -1,4 +1,4 @@
--- The eight calls as one: what a call answers on a memory, and the memory that it leaves. Definitions only: each line is the contract
+-- The calls as one: what a call answers on a memory, and the memory that it leaves. Definitions only: each line is the contract
 -- of a function of `globe`.
 use Prim.Native.Nat.{ℕ}
 use mathlib.Core.Bool.{Bool, true, false}
@@ -20,26 +20,29 @@ use Rattle.pool.specs.Empty.{emptyReply, clearReply, emptied}
 use Rattle.pool.specs.Load.{loadReply, loadMemory}
 use Rattle.pool.specs.Remove.{removeReply, removeMemory}
 use Rattle.pool.specs.Fetch.{fetchReply, fetchBuffer}
+use Rattle.pool.specs.FetchString.{stringReply, stringBuffer}
 use Rattle.pool.specs.Totals.{totalsReply}
 use Rattle.globe.specs.Orientation.{orientationReply}
 use Rattle.globe.specs.Radii.{radiiReply}
 use Rattle.globe.specs.declared.source.Source.{Source}
 
--- a call with its arguments; fetch comes with the buffer that is lent
+-- a call with its arguments; the two fetches come with the buffer that is lent
 pub data Call : Type 0 where
   makeEmpty : Call
   load : (label : ℕ) (bytes : List ℕ) → Call
   remove : (label : ℕ) → Call
   clear : Call
   fetch : (name : List ℕ) (buffer : List Float) → Call
+  fetchString : (name : List ℕ) (place : ℕ) (buffer : List ℕ) → Call
   totals : Call
   orientation : Source → (code : ℕ) (epoch : Float) → Call
   radii : Source → (code : ℕ) → Call
 
--- what a call answers; fetch also leaves a buffer
+-- what a call answers; the two fetches also leave a buffer
 pub data Answer : Type 0 where
   replied : Reply → Answer
   fetched : Fetched → (buffer : List Float) → Answer
+  spelled : Fetched → (buffer : List ℕ) → Answer
   counted : Counts → Answer
   oriented : Oriented → Answer
   measured : Radii → Answer
@@ -50,6 +53,7 @@ asked (load label bytes) m = replied (loadReply label bytes m)
 asked (remove label) m = replied (removeReply label m)
 asked clear m = replied (clearReply m)
 asked (fetch name buffer) m = fetched (fetchReply name (length buffer) m) (fetchBuffer name m buffer)
+asked (fetchString name place buffer) m = spelled (stringReply name place (length buffer) m) (stringBuffer name place m buffer)
 asked totals m = counted (totalsReply m)
 asked (orientation source code epoch) m = oriented (orientationReply source m code epoch)
 asked (radii source code) m = measured (radiiReply source m code)
@@ -61,6 +65,7 @@ leaves (load label bytes) m = loadMemory label bytes m
 leaves (remove label) m = removeMemory label m
 leaves clear m = emptied (clearReply m) m
 leaves (fetch name buffer) m = m
+leaves (fetchString name place buffer) m = m
 leaves totals m = m
 leaves (orientation source code epoch) m = m
 leaves (radii source code) m = m
@@ -72,6 +77,7 @@ query (load label bytes) = false
 query (remove label) = false
 query clear = false
 query (fetch name buffer) = true
+query (fetchString name place buffer) = true
 query totals = true
 query (orientation source code epoch) = true
 query (radii source code) = true
@@ -93,6 +99,7 @@ library = record { answer = asked; memory = leaves }
 abbrev pub number : Answer → ℕ
 number (replied r) = replyNumber r
 number (fetched r buffer) = fetchedNumber r
+number (spelled r buffer) = fetchedNumber r
 number (counted r) = countsNumber r
 number (oriented (O.Given o)) = SUCCESS
 number (oriented (O.Refused q)) = numberOf q
@@ -105,14 +112,16 @@ accepted a = eqb (number a) SUCCESS
 abbrev pub line : Answer → ℕ
 line (replied r) = replyLine r
 line (fetched r buffer) = 0
+line (spelled r buffer) = 0
 line (counted r) = 0
 line (oriented r) = 0
 line (measured r) = 0
 
--- "fetch also tells the count (0 when refused)"
+-- "fetch also tells the count (0 when refused)"; of a string "its length told"
 abbrev pub count : Answer → ℕ
 count (replied r) = 0
 count (fetched r buffer) = fetchedCount r
+count (spelled r buffer) = fetchedCount r
 count (counted r) = 0
 count (oriented r) = 0
 count (measured r) = 0
@@ -121,6 +130,7 @@ count (measured r) = 0
 abbrev pub doubles : Answer → List Float
 doubles (replied r) = []
 doubles (fetched r buffer) = []
+doubles (spelled r buffer) = []
 doubles (counted r) = []
 doubles (oriented (O.Given o)) =
     o .ra ∷ o .dec ∷ o .w ∷ o .m11 ∷ o .m12 ∷ o .m13 ∷ o .m21 ∷ o .m22 ∷ o .m23 ∷ o .m31 ∷ o .m32 ∷ o .m33 ∷ []
@@ -132,26 +142,36 @@ doubles (measured (A.Refused q)) = []
 abbrev pub totalled : Answer → List ℕ
 totalled (replied r) = []
 totalled (fetched r buffer) = []
+totalled (spelled r buffer) = []
 totalled (counted (T.Held texts statements values)) = texts ∷ statements ∷ values ∷ []
 totalled (counted (T.Refused q)) = []
 totalled (oriented r) = []
 totalled (measured r) = []
 
--- ---- the buffer that a call is lent, and the one that it gives back
+-- ---- the buffer that a call is lent, and the one that it gives back: of doubles, or of bytes
 
-abbrev pub lent : Call → List Float
-lent makeEmpty = []
-lent (load label bytes) = []
-lent (remove label) = []
-lent clear = []
-lent (fetch name buffer) = buffer
-lent totals = []
-lent (orientation source code epoch) = []
-lent (radii source code) = []
+pub record Buffers : Type 0 where
+  pub values : List Float
+  pub bytes : List ℕ
 
-abbrev pub returned : Answer → List Float
-returned (replied r) = []
-returned (fetched r buffer) = buffer
-returned (counted r) = []
-returned (oriented r) = []
-returned (measured r) = []
+abbrev pub none : Buffers
+none = record { values = []; bytes = [] }
+
+abbrev pub lent : Call → Buffers
+lent makeEmpty = none
+lent (load label bytes) = none
+lent (remove label) = none
+lent clear = none
+lent (fetch name buffer) = record { values = buffer; bytes = [] }
+lent (fetchString name place buffer) = record { values = []; bytes = buffer }
+lent totals = none
+lent (orientation source code epoch) = none
+lent (radii source code) = none
+
+abbrev pub returned : Answer → Buffers
+returned (replied r) = none
+returned (fetched r buffer) = record { values = buffer; bytes = [] }
+returned (spelled r buffer) = record { values = []; bytes = buffer }
+returned (counted r) = none
+returned (oriented r) = none
+returned (measured r) = none

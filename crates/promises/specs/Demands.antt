@@ -20,7 +20,6 @@ use Rattle.rotation.specs.Overflow.{NeverOverflows}
 use Rattle.rotation.specs.declared.code.System.the-variants.{Of}
 use Rattle.rotation.specs.declared.elements.Elements.{Elements}
 use Rattle.rotation.specs.declared.matrix.Orientation.{Orientation}
-use Rattle.rotation.specs.declared.matrix.Oriented.{Oriented}
 use Rattle.rotation.specs.declared.matrix.Oriented.the-variants as O
 use Rattle.rotation.specs.declared.table.Axes.{Axes}
 use Rattle.rotation.specs.declared.table.Radii.{Radii}
@@ -28,10 +27,10 @@ use Rattle.rotation.specs.declared.table.Radii.the-variants as A
 use Rattle.rotation.specs.declared.table.Row.the-variants.{Held}
 use Rattle.rotation.specs.declared.table.Size.the-variants.{Known}
 use Rattle.text.specs.Lines.{lines}
-use Rattle.text.specs.Faults.{refusalOf}
-use Rattle.text.specs.Statements.{Event}
+use Rattle.value.specs.Faults.{refusalOf}
+use Rattle.statement.specs.Statements.{Event}
 use Rattle.text.specs.Text.{fine, refused, readText}
-use Rattle.text.specs.declared.faults.Fault.{Fault}
+use Rattle.value.specs.declared.faults.Fault.{Fault}
 use Rattle.layout.specs.State.{Pool}
 use Rattle.layout.specs.Limits.{room, LONGEST-LOAD}
 use Rattle.layout.specs.Memory.{decode}
@@ -40,13 +39,14 @@ use Rattle.pool.specs.Empty.{Empties, Clears}
 use Rattle.pool.specs.Load.{held, textOf, with, Loads}
 use Rattle.pool.specs.Remove.{Removes}
 use Rattle.variables.specs.Found as F
+use Rattle.variables.specs.Variables.{variable}
+use Rattle.variables.specs.Spelled.{stringOf}
 use Rattle.pool.specs.Fetch.{Fetches}
+use Rattle.pool.specs.FetchString.{FetchesString}
 use Rattle.pool.specs.Totals.{Totals}
-use Rattle.pool.specs.declared.reply.Reply.{Reply}
 use Rattle.pool.specs.declared.reply.Reply.the-variants.{Refused}
 use Rattle.pool.specs.declared.reply.Fetched.{Fetched}
-use Rattle.pool.specs.declared.reply.Counts.{Counts}
-use Rattle.wanted.specs.Elements.{there, noneThere, complete, wellCounted, elements, angles, list}
+use Rattle.wanted.specs.Elements.{there, numeric, noneThere, complete, allNumeric, wellCounted, elements, angles, list}
 use Rattle.globe.specs.Orientation.{Orients}
 use Rattle.globe.specs.Radii.{Measures}
 use Rattle.globe.specs.declared.source.Source.{Source}
@@ -75,6 +75,10 @@ pub record Contracts (b : Build) : Type 0 where
   pub fetch :
       (name m : List ℕ) (buffer : List Float)
       → Meets {A = Fetched × List Float} (λ r. C.fetched (r .0) (r .1)) (λ r. Fetches name m buffer (r .0) (r .1)) (b .answer (C.fetch name buffer) m)
+  pub fetchString :
+      (name : List ℕ) (place : ℕ) (m buffer : List ℕ)
+      → Meets {A = Fetched × List ℕ} (λ r. C.spelled (r .0) (r .1)) (λ r. FetchesString name place m buffer (r .0) (r .1))
+      (b .answer (C.fetchString name place buffer) m)
   pub totals : (m : List ℕ) → Meets C.counted (Totals m) (b .answer C.totals m)
   pub orientation :
       (source : Source) (m : List ℕ) (n : ℕ) (epoch : Float)
@@ -97,6 +101,7 @@ pub record NoSecondAnswer : Type 0 where
   pub remove : (label : ℕ) (before : List ℕ) → OneOutcome (Removes label before)
   pub clear : (before : List ℕ) → OneOutcome (Clears before)
   pub fetch : (name memory : List ℕ) (before : List Float) → OneOutcome (Fetches name memory before)
+  pub fetchString : (name : List ℕ) (place : ℕ) (memory before : List ℕ) → OneOutcome (FetchesString name place memory before)
   pub totals : (memory : List ℕ) → OneAnswer (Totals memory)
   pub orientation : (source : Source) (memory : List ℕ) (n : ℕ) (epoch : Float) → OneAnswer (Orients source memory n epoch)
   pub radii : (source : Source) (memory : List ℕ) (n : ℕ) → OneAnswer (Measures source memory n)
@@ -132,7 +137,15 @@ abbrev pub FetchWrites : Build → Type 0
 FetchWrites b =
     (name m : List ℕ) (buffer : List Float) → accepted (b .answer (C.fetch name buffer) m) ≡ true
     → (count (b .answer (C.fetch name buffer) m) ≡ length (F.doubles name (decode m)))
-    × (returned (b .answer (C.fetch name buffer) m) ≡ F.doubles name (decode m) ++ drop (length (F.doubles name (decode m))) buffer)
+    × (returned (b .answer (C.fetch name buffer) m) .values ≡ F.doubles name (decode m) ++ drop (length (F.doubles name (decode m))) buffer)
+
+-- "Strings are fetched by place, counted from 1, each to the start of a lent byte buffer, its length told."
+abbrev pub FetchStringWrites : Build → Type 0
+FetchStringWrites b =
+    (name : List ℕ) (place : ℕ) (m buffer : List ℕ) → accepted (b .answer (C.fetchString name place buffer) m) ≡ true
+    → (count (b .answer (C.fetchString name place buffer) m) ≡ length (stringOf place (variable name (decode m))))
+    × (returned (b .answer (C.fetchString name place buffer) m) .bytes
+    ≡ stringOf place (variable name (decode m)) ++ drop (length (stringOf place (variable name (decode m)))) buffer)
 
 -- no call damages an undamaged pool
 abbrev pub NoDamage : Build → Type 0
@@ -156,6 +169,7 @@ pub record HasElements (s : Pool) (n : ℕ) (epoch : Float) (o : Orientation) : 
   pub legal : systemOf n ≡ Of system
   pub some : noneThere s n ≡ false
   pub whole : complete s n system ≡ true
+  pub kinds : allNumeric s n system ≡ true
   pub counts : wellCounted s n system ≡ true
   pub evaluation :
       o ≡ evaluated (elements s n) epoch (angles s n system) (list s n W.NutPrecRa) (list s n W.NutPrecDec) (list s n W.NutPrecPm)
@@ -174,6 +188,7 @@ pub record HasRadii (s : Pool) (n : ℕ) (x : Axes) : Type 0 where
   pub system : ℕ
   pub legal : systemOf n ≡ Of system
   pub some : there s n W.Radii ≡ true
+  pub kinds : numeric s n W.Radii ≡ true
   pub three : list s n W.Radii ≡ x .a ∷ x .b ∷ x .c ∷ []
 
 -- "exactly when", both ways, of any build

@@ -11,10 +11,12 @@ use Rattle.plain.specs.Choice.{if_then_else_}
 use Rattle.layout.specs.State.{Text, Pool}
 use Rattle.layout.specs.Limits.{WORDS}
 use Rattle.pool.specs.Load.{textOf}
+use Rattle.variables.specs.Variables.{variable}
 use Rattle.variables.specs.Found.{doubles, foundIn, filled}
+use Rattle.variables.specs.Spelled.{stringOf, spelledIn}
 use Rattle.pool.specs.Fetch as F
 use Rattle.pool.specs.Totals.{counts}
-use Rattle.promises.specs.Calls.{Call, makeEmpty, load, remove, clear, fetch, totals, orientation, radii, Answer, fetched, counted, Build, accepted}
+use Rattle.promises.specs.Calls.{Call, makeEmpty, load, remove, clear, fetch, fetchString, totals, orientation, radii, Answer, fetched, spelled, counted, Build, accepted}
 
 -- a text as it was loaded
 pub record Loaded : Type 0 where
@@ -36,6 +38,7 @@ kept (load label bytes) ks = ks ++ (record { label = label; bytes = bytes } ∷ 
 kept (remove label) ks = removing label ks
 kept clear ks = []
 kept (fetch name buffer) ks = ks
+kept (fetchString name place buffer) ks = ks
 kept totals ks = ks
 kept (orientation source code epoch) ks = ks
 kept (radii source code) ks = ks
@@ -79,7 +82,7 @@ AllAccepted b (c ∷ cs) m = (accepted (b .answer c m) ≡ true) × AllAccepted 
 abbrev pub Replayed : Build → Type 0
 Replayed b = (m m′ : List ℕ) → Fresh b m → Fresh b m′ → (history : List Call) → AllAccepted b (map loading (still b history m [])) m′
 
--- ---- what fetch and totals answer; "totals being the counts summed over those texts"
+-- ---- what the fetches and totals answer; "totals being the counts summed over those texts"
 
 abbrev pub text : Loaded → Text
 text k = textOf (k .label) (k .bytes)
@@ -92,8 +95,17 @@ texts b history m = map text (still b history m [])
 abbrev pub fetching : List ℕ → (buffer : List Float) → Pool → Answer
 fetching name buffer s = fetched (F.fetched (foundIn name (length buffer) s)) (filled (foundIn name (length buffer) s) (doubles name s) buffer)
 
+-- and of a string: the one at the place, if there is one and it has room
+abbrev pub spelling : List ℕ → (place : ℕ) (buffer : List ℕ) → Pool → Answer
+spelling name place buffer s =
+    spelled (F.fetched (spelledIn name place (length buffer) s))
+    (filled (spelledIn name place (length buffer) s) (stringOf place (variable name s)) buffer)
+
 pub record OfHeldTexts (b : Build) : Type 0 where
   pub variables :
       (m : List ℕ) → Fresh b m → (history : List Call) (name : List ℕ) (buffer : List Float)
       → b .answer (fetch name buffer) (after b history m) ≡ fetching name buffer (texts b history m)
+  pub strings :
+      (m : List ℕ) → Fresh b m → (history : List Call) (name : List ℕ) (place : ℕ) (buffer : List ℕ)
+      → b .answer (fetchString name place buffer) (after b history m) ≡ spelling name place buffer (texts b history m)
   pub sums : (m : List ℕ) → Fresh b m → (history : List Call) → b .answer totals (after b history m) ≡ counted (counts (texts b history m))

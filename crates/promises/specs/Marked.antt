@@ -24,7 +24,8 @@ use Rattle.decimal.specs.declared.Reading.the-variants as D
 use Rattle.layout.specs.State.{Pool}
 use Rattle.layout.specs.Damage.{sound}
 use Rattle.pool.specs.Replies.{replyNumber, replyLine, done}
-use Rattle.variables.specs.Variables.{variable}
+use Rattle.variables.specs.Variables.{variable, allNumbers}
+use Rattle.variables.specs.Found.{doubles}
 use Rattle.pool.specs.Load.{textOf, with, loadAnswer}
 use Rattle.pool.specs.Remove.{without, removeAnswer}
 use Rattle.globe.specs.Orientation.{orientationFrom, orientationReply}
@@ -68,7 +69,7 @@ loaded label bytes s = if done (loadAnswer label bytes s) then with s (textOf la
 
 -- the variable X of a pool has these values
 abbrev pub x-is : List Float → Pool → Bool
-x-is xs s = equal (variable (ascii "X") s) (map bits xs)
+x-is xs s = allNumbers (variable (ascii "X") s) && equal (map bits (doubles (ascii "X") s)) (map bits xs)
 
 abbrev pub two : Float
 two = printed 2 0

@@ -1,6 +1,6 @@
 -- "Order: 15 first; then by call 1, 2, the first faulty line (in it 3, then 4, then whichever of 5 and 6 starts at the earlier byte), 7; 8;
--- 13, 14; 9, 10, 11, 12. Fifteen is not checked where the built-in source is named." Each refusal is given where its condition holds and
--- none does that is asked before it. Definitions only.
+-- 13, 14; 9, 10, 11, 12. Fifteen is not checked where the built-in source is named." "16 MIXED KIND .. stands just before 12"; "both fetches
+-- ask 13, 16, 14 in turn". Each refusal is given where its condition holds and none does that is asked before it. Definitions only.
 use Prim.Native.Nat.{ℕ, _≤_, _<_}
 use mathlib.Core.Path.{_≡_}
 use mathlib.Core.Bool.{Bool, true, false}
@@ -17,17 +17,18 @@ use Rattle.rotation.specs.Table.{rowOf, sizeOf}
 use Rattle.rotation.specs.declared.code.System.the-variants.{Of, Nowhere}
 use Rattle.rotation.specs.declared.table.Row.the-variants.{NoRow}
 use Rattle.rotation.specs.declared.table.Size.the-variants.{NoSize}
-use Rattle.text.specs.Faults.{refusalOf}
-use Rattle.text.specs.Statements.{Event}
+use Rattle.value.specs.Faults.{refusalOf}
+use Rattle.statement.specs.Statements.{Event}
 use Rattle.text.specs.Text.{fine, refused, readText}
-use Rattle.text.specs.declared.faults.Fault.{Fault}
+use Rattle.value.specs.declared.faults.Fault.{Fault}
 use Rattle.layout.specs.Limits.{room, LONGEST-LOAD}
 use Rattle.layout.specs.Memory.{decode}
 use Rattle.layout.specs.Damage.{sized, sound}
-use Rattle.variables.specs.Variables.{present}
-use Rattle.variables.specs.Found.{doubles}
+use Rattle.plain.specs.Bytes.{within}
+use Rattle.variables.specs.Variables.{variable, present, allNumbers, allStrings}
+use Rattle.variables.specs.Spelled.{stringOf}
 use Rattle.pool.specs.Load.{held, textOf, with}
-use Rattle.wanted.specs.Elements.{there, noneThere, complete, wellCounted, list}
+use Rattle.wanted.specs.Elements.{there, numeric, noneThere, complete, allNumeric, wellCounted, list}
 use Rattle.wanted.specs.declared.name.Wanted.the-variants as W
 use Rattle.globe.specs.declared.source.Source.the-variants as S
 use Rattle.promises.specs.Calls as C
@@ -44,6 +45,7 @@ usesPool (C.load label bytes) = true
 usesPool (C.remove label) = true
 usesPool C.clear = true
 usesPool (C.fetch name buffer) = true
+usesPool (C.fetchString name place buffer) = true
 usesPool C.totals = true
 usesPool (C.orientation S.Pool code epoch) = true
 usesPool (C.orientation S.Builtin code epoch) = false
@@ -64,8 +66,20 @@ pub record LoadOrder (b : Build) (label : ℕ) (bytes m : List ℕ) : Type 0 whe
 
 pub record FetchOrder (b : Build) (name : List ℕ) (buffer : List Float) (m : List ℕ) : Type 0 where
   pub noVariable : present name (decode m) ≡ false → Refuses b (C.fetch name buffer) m Q.NoVariable
+  pub mixedKind : present name (decode m) ≡ true → allNumbers (variable name (decode m)) ≡ false → Refuses b (C.fetch name buffer) m Q.MixedKind
   pub shortBuffer :
-      present name (decode m) ≡ true → length buffer < length (doubles name (decode m)) → Refuses b (C.fetch name buffer) m Q.ShortBuffer
+      present name (decode m) ≡ true → allNumbers (variable name (decode m)) ≡ true → length buffer < length (variable name (decode m))
+      → Refuses b (C.fetch name buffer) m Q.ShortBuffer
+
+-- "place 0 or past the end is 13"
+pub record StringOrder (b : Build) (name : List ℕ) (place : ℕ) (buffer m : List ℕ) : Type 0 where
+  pub noVariable : within 1 (length (variable name (decode m))) place ≡ false → Refuses b (C.fetchString name place buffer) m Q.NoVariable
+  pub mixedKind :
+      within 1 (length (variable name (decode m))) place ≡ true → allStrings (variable name (decode m)) ≡ false
+      → Refuses b (C.fetchString name place buffer) m Q.MixedKind
+  pub shortBuffer :
+      within 1 (length (variable name (decode m))) place ≡ true → allStrings (variable name (decode m)) ≡ true
+      → length buffer < length (stringOf place (variable name (decode m))) → Refuses b (C.fetchString name place buffer) m Q.ShortBuffer
 
 pub record OrientationOrder (b : Build) (n : ℕ) (epoch : Float) (m : List ℕ) : Type 0 where
   pub epochs : inReach epoch ≡ false → Refuses b (C.orientation S.Pool n epoch) m Q.Epoch
@@ -75,15 +89,22 @@ pub record OrientationOrder (b : Build) (n : ℕ) (epoch : Float) (m : List ℕ)
   pub incomplete :
       (k : ℕ) → inReach epoch ≡ true → systemOf n ≡ Of k → noneThere (decode m) n ≡ false → complete (decode m) n k ≡ false
       → Refuses b (C.orientation S.Pool n epoch) m Q.Incomplete
-  pub wrongCount :
+  pub mixedKind :
       (k : ℕ) → inReach epoch ≡ true → systemOf n ≡ Of k → noneThere (decode m) n ≡ false → complete (decode m) n k ≡ true
-      → wellCounted (decode m) n k ≡ false → Refuses b (C.orientation S.Pool n epoch) m Q.WrongCount
+      → allNumeric (decode m) n k ≡ false → Refuses b (C.orientation S.Pool n epoch) m Q.MixedKind
+  pub wrongCount :
+      (k : ℕ) → inReach epoch ≡ true → systemOf n ≡ Of k → noneThere (decode m) n ≡ false
+      → complete (decode m) n k ≡ true → allNumeric (decode m) n k ≡ true → wellCounted (decode m) n k ≡ false
+      → Refuses b (C.orientation S.Pool n epoch) m Q.WrongCount
 
 pub record RadiiOrder (b : Build) (n : ℕ) (m : List ℕ) : Type 0 where
   pub noCode : systemOf n ≡ Nowhere → Refuses b (C.radii S.Pool n) m Q.UnknownBody
   pub noBody : (k : ℕ) → systemOf n ≡ Of k → there (decode m) n W.Radii ≡ false → Refuses b (C.radii S.Pool n) m Q.UnknownBody
+  pub mixedKind :
+      (k : ℕ) → systemOf n ≡ Of k → there (decode m) n W.Radii ≡ true → numeric (decode m) n W.Radii ≡ false
+      → Refuses b (C.radii S.Pool n) m Q.MixedKind
   pub wrongCount :
-      (k : ℕ) → systemOf n ≡ Of k → there (decode m) n W.Radii ≡ true → eqb (length (list (decode m) n W.Radii)) 3 ≡ false
+      (k : ℕ) → systemOf n ≡ Of k → there (decode m) n W.Radii ≡ true → numeric (decode m) n W.Radii ≡ true → eqb (length (list (decode m) n W.Radii)) 3 ≡ false
       → Refuses b (C.radii S.Pool n) m Q.WrongCount
 
 -- ---- the claim
@@ -94,6 +115,7 @@ pub record InOrder (b : Build) : Type 0 where
   pub loads : (label : ℕ) (bytes m : List ℕ) → sound m ≡ true → LoadOrder b label bytes m
   pub notHeld : (label : ℕ) (m : List ℕ) → sound m ≡ true → held label (decode m) ≡ false → Refuses b (C.remove label) m Q.NotHeld
   pub fetches : (name : List ℕ) (buffer : List Float) (m : List ℕ) → sound m ≡ true → FetchOrder b name buffer m
+  pub strings : (name : List ℕ) (place : ℕ) (buffer m : List ℕ) → sound m ≡ true → StringOrder b name place buffer m
   pub orientations : (n : ℕ) (epoch : Float) (m : List ℕ) → sound m ≡ true → OrientationOrder b n epoch m
   pub radii : (n : ℕ) (m : List ℕ) → sound m ≡ true → RadiiOrder b n m
   pub tableEpochs : (n : ℕ) (epoch : Float) (m : List ℕ) → inReach epoch ≡ false → Refuses b (C.orientation S.Builtin n epoch) m Q.Epoch

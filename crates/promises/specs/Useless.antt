@@ -18,7 +18,7 @@ use Rattle.rotation.specs.declared.table.Axes.{Axes}
 use Rattle.rotation.specs.declared.table.Radii.the-variants as A
 use Rattle.rotation.specs.declared.table.Row.the-variants.{Held}
 use Rattle.text.specs.Text.{refused, readText}
-use Rattle.text.specs.declared.faults.Fault.{Fault}
+use Rattle.value.specs.declared.faults.Fault.{Fault}
 use Rattle.layout.specs.State.{Pool}
 use Rattle.layout.specs.Memory.{decode}
 use Rattle.layout.specs.Damage.{sound}
