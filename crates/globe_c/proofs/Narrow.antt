@@ -1,26 +1,29 @@
--- Thirty-two bits lose nothing: a line is one of a text of at most 65,536 bytes, a count is one of at most 3,072 held values, so each is
--- its own remainder. Assumes nothing.
-use mathlib.Core.Path.{_≡_, refl}
+-- Thirty-two bits lose nothing: a line is one of a text of at most 65,536 bytes, a count is one of at most 3,072 held values or of a string's
+-- at most 60 bytes, so each is its own remainder. Assumes nothing.
+use mathlib.Core.Path.{_≡_, refl, sym, _∙_}
 use mathlib.Core.Bool.{Bool, true, false, _&&_}
 use mathlib.Core.List.{List, [], _∷_, _++_}
-use Prim.Native.Nat.{ℕ, _+_, _≤_}
+use Prim.Native.Nat.{ℕ, zero, suc, _+_, _-_, _≤_}
 use native.Mathlib.Nat.{mod-eq-of-lt}
 use native.Mathlib.Omega.{arith}
 use borrow.Author.Tests.{ltb-false}
 use lib.Dec.{eqb, ltb, leb}
-use lib.ListN.{length, length-append}
+use lib.ListN.{length, getD, length-append, length-map}
 use Rattle.plain.specs.Choice.{if_then_else_}
-use Rattle.plain.specs.Bytes.{LF, CR}
+use Rattle.plain.specs.Bytes.{LF, CR, within}
 use Rattle.text.specs.Lines.{lines, before, atLF}
-use Rattle.text.specs.Statements.{Statement}
+use Rattle.value.specs.Strings.{STRING}
+use Rattle.statement.specs.Statements.{Values, numbers, strings, Statement}
 use Rattle.text.specs.Text.{Read, fine, refused, readText}
 use Rattle.text.proofs.FirstFault.{number-within}
-use Rattle.layout.specs.State.{Pool, program, flat, valuesOf, values}
+use Rattle.plain.proofs.Each.{Each, each-append}
+use Rattle.layout.specs.State.{Pool, program, flat, wordsOf, valuesOf, values}
 use Rattle.layout.specs.Limits.{TEXTS, STATEMENTS, VALUES, room, LONGEST-LOAD}
 use Rattle.layout.specs.Memory.{decode}
 use Rattle.layout.specs.Damage.{sized, sound}
 use Rattle.layout.proofs.Sound.{sound-of}
-use Rattle.layout.proofs.Holds.{decode-fits}
+use Rattle.layout.proofs.Legal.{Fair, FairValues}
+use Rattle.layout.proofs.Holds.{decode-fits, decode-legal}
 use Rattle.refusal.specs.declared.Refusal.the-variants.{LabelHeld, TextTooLong, NotHeld, DamagedPool}
 use Rattle.pool.specs.Empty.{emptyReply, clearReply}
 use Rattle.pool.specs.Remove.{removeReply}
@@ -29,10 +32,12 @@ use Rattle.pool.specs.Totals.{counts, totalsReply}
 use Rattle.pool.specs.declared.reply.Reply.{Reply}
 use Rattle.pool.specs.declared.reply.Reply.the-variants.{Done}
 use Rattle.pool.specs.declared.reply.Counts.the-variants as C
-use Rattle.variables.specs.Variables.{has, any, assigns, since, gives, variable, present}
+use Rattle.variables.specs.Variables.{Datum, number, string, each, has, any, assigns, since, gives, variable, present, allNumbers, allStrings}
 use Rattle.pool.specs.Load.{held, admitted, loadAnswer, loadReply, with, textOf}
 use Rattle.variables.specs.Found.{foundIn}
+use Rattle.variables.specs.Spelled.{letters, stringOf, spelledIn}
 use Rattle.pool.specs.Fetch.{fetched, fetchReply}
+use Rattle.pool.specs.FetchString.{stringReply}
 use Rattle.pool.specs.declared.reply.Fetched.the-variants as F
 use Rattle.variables.specs.declared.variable.Found.the-variants as W
 use Rattle.globe_c.specs.Faces.{narrow}
@@ -71,6 +76,11 @@ line-few label bytes m = by (sound m) (held label (decode m)) (ltb LONGEST-LOAD 
 
 -- ---- counts
 
+-- a value has a word
+length-each : (v : Values) → length (each v) ≡ length (wordsOf v)
+length-each (numbers ws) = length-map ws number
+length-each (strings ss) = length-map ss string ∙ sym (length-map ss length)
+
 -- a variable has no more values than its statements give
 gives-few : (name : List ℕ) (ss : List Statement) → length (flat (gives name) ss) ≤ length (flat valuesOf ss)
 unfolding flat
@@ -78,9 +88,9 @@ gives-few name [] = omega arith
 gives-few name (s ∷ ss) = by (has name s) (gives-few name ss)
   where
     by : (x : Bool) → length (flat (gives name) ss) ≤ length (flat valuesOf ss)
-        → length ((if x then s .values else []) ++ flat (gives name) ss) ≤ length (s .values ++ flat valuesOf ss)
-    by true h = omega (arith, length-append (s .values) (flat (gives name) ss), length-append (s .values) (flat valuesOf ss))
-    by false h = omega (arith, length-append (s .values) (flat valuesOf ss))
+        → length ((if x then each (s .values) else []) ++ flat (gives name) ss) ≤ length (valuesOf s ++ flat valuesOf ss)
+    by true h = omega (arith, length-each (s .values), length-append (each (s .values)) (flat (gives name) ss), length-append (valuesOf s) (flat valuesOf ss))
+    by false h = omega (arith, length-append (valuesOf s) (flat valuesOf ss))
 
 since-few : (name : List ℕ) (ss : List Statement) → length (flat (gives name) (since name ss)) ≤ length (flat (gives name) ss)
 unfolding since flat
@@ -98,14 +108,64 @@ variable-few name s = omega (arith, since-few name (program s), gives-few name (
 
 count-few : (name : List ℕ) (room : ℕ) (m : List ℕ) → fetchedCount (fetchReply name room m) ≤ VALUES
 unfolding fetchReply foundIn
-count-few name room m = by (sound m) (present name (decode m)) (leb (length (variable name (decode m))) room) refl
+count-few name room m = by (sound m) (present name (decode m)) (allNumbers (variable name (decode m))) (leb (length (variable name (decode m))) room) refl
   where
-    by : (x y z : Bool) → sound m ≡ x
-        → fetchedCount (if x then fetched (if y then (if z then W.Count (length (variable name (decode m))) else W.TooMany) else W.Absent) else F.Refused DamagedPool) ≤ VALUES
-    by true true true e = omega (arith, variable-few name (decode m), decode-fits m (sound-of m e) .values)
-    by true true false e = omega arith
-    by true false z e = omega arith
-    by false y z e = omega arith
+    by : (x y n z : Bool) → sound m ≡ x
+        → fetchedCount (if x then fetched (if y then (if n then (if z then W.Count (length (variable name (decode m))) else W.TooMany) else W.Mixed) else W.Absent) else F.Refused DamagedPool) ≤ VALUES
+    by true true true true e = omega (arith, variable-few name (decode m), decode-fits m (sound-of m e) .values)
+    by true true true false e = omega arith
+    by true true false z e = omega arith
+    by true false n z e = omega arith
+    by false y n z e = omega arith
+
+-- ---- the bytes of a string
+
+abbrev Short : Datum → Type 0
+Short d = length (letters d) ≤ STRING
+
+short-each : (v : Values) → FairValues v → Each Short (each v)
+short-each (numbers []) f = tt
+short-each (numbers (w ∷ ws)) f = (omega arith, short-each (numbers ws) (f .1))
+short-each (strings []) f = tt
+short-each (strings (s ∷ ss)) f = (f .0 .short, short-each (strings ss) (f .1))
+
+short-gives : (name : List ℕ) (ss : List Statement) → Each Fair ss → Each Short (flat (gives name) ss)
+unfolding flat
+short-gives name [] f = tt
+short-gives name (s ∷ ss) f = each-append Short (gives name s) (flat (gives name) ss) (by (has name s)) (short-gives name ss (f .1))
+  where
+    by : (x : Bool) → Each Short (if x then each (s .values) else [])
+    by true = short-each (s .values) (f .0 .values)
+    by false = tt
+
+fair-since : (name : List ℕ) (ss : List Statement) → Each Fair ss → Each Fair (since name ss)
+unfolding since
+fair-since name [] f = tt
+fair-since name (s ∷ ss) f = by (any (assigns name) ss) (fair-since name ss (f .1))
+  where
+    by : (x : Bool) → Each Fair (since name ss) → Each Fair (if x then since name ss else (s ∷ ss))
+    by true g = g
+    by false g = f
+
+short-at : (vs : List Datum) (i : ℕ) → Each Short vs → length (letters (getD vs i (string []))) ≤ STRING
+short-at [] i f = omega arith
+short-at (v ∷ vs) zero f = f .0
+short-at (v ∷ vs) (suc i) f = short-at vs i (f .1)
+
+string-few : (name : List ℕ) (place room : ℕ) (m : List ℕ) → fetchedCount (stringReply name place room m) ≤ STRING
+unfolding stringReply spelledIn variable
+string-few name place room m =
+    by (sound m) (within 1 (length (variable name (decode m))) place) (allStrings (variable name (decode m))) (leb (length (stringOf place (variable name (decode m)))) room) refl
+  where
+    by : (x y n z : Bool) → sound m ≡ x
+        → fetchedCount (if x then fetched (if y then (if n then (if z then W.Count (length (stringOf place (variable name (decode m)))) else W.TooMany) else W.Mixed) else W.Absent) else F.Refused DamagedPool) ≤ STRING
+    by true true true true e =
+        let p = program (decode m) in
+        short-at (variable name (decode m)) (place - 1) (short-gives name (since name p) (fair-since name p (decode-legal m (sound-of m e) .statements)))
+    by true true true false e = omega arith
+    by true true false z e = omega arith
+    by true false n z e = omega arith
+    by false y n z e = omega arith
 
 totals-few :
     (m : List ℕ)
@@ -142,6 +202,7 @@ loses-nothing =
       remove = λ label m. removed (sound m) (held label (decode m));
       clear = λ m. no-line (sound m) Done refl;
       fetch = λ name room m. record { number = refl; line = refl; count = narrow-itself _ (omega (arith, count-few name room m)) };
+      fetchString = λ name place room m. record { number = refl; line = refl; count = narrow-itself _ (omega (arith, string-few name place room m)) };
       totals = λ m. let t = totals-few m in record {
         number = refl;
         line = refl;

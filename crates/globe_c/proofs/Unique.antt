@@ -2,7 +2,6 @@
 use mathlib.Core.Path.{_≡_, sym, _∙_}
 use mathlib.Core.List.{List}
 use Prim.Native.Nat.{ℕ}
-use lib.Ieee.{Float}
 use Rattle.pool.specs.declared.reply.Reply.{Reply}
 use Rattle.pool.specs.declared.reply.Fetched.{Fetched}
 use Rattle.globe_c.specs.Faces.{Changes, Fetches}
@@ -16,7 +15,7 @@ pub one-change :
 one-change reply memory r r′ after after′ p q = (p .shown ∙ sym (q .shown), p .left ∙ sym (q .left))
 
 pub one-fetch :
-    (reply : Fetched) (buffer : List Float) (r r′ : GlobeFetched) (after after′ : List Float) → Fetches reply buffer r after
+    {A : Type 0} (reply : Fetched) (buffer : List A) (r r′ : GlobeFetched) (after after′ : List A) → Fetches reply buffer r after
     → Fetches reply buffer r′ after′ → (r ≡ r′) × (after ≡ after′)
 one-fetch reply buffer r r′ after after′ p q = (p .shown ∙ sym (q .shown), p .left ∙ sym (q .left))
 

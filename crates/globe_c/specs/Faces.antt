@@ -3,7 +3,6 @@
 use Prim.Native.Nat.{ℕ, _%_}
 use mathlib.Core.Path.{_≡_}
 use mathlib.Core.List.{List}
-use lib.Ieee.{Float}
 use Rattle.plain.specs.Doubles.{nought}
 use Rattle.refusal.specs.Numbers.{SUCCESS, numberOf}
 use Rattle.rotation.specs.declared.matrix.Oriented.{Oriented}
@@ -85,7 +84,7 @@ pub record Changes (reply : Reply) (memory : List ℕ) (r : GlobeReply) (after :
   pub shown : r ≡ replyFace reply
   pub left : after ≡ memory
 
--- the whole contract of fetch: its reply and the buffer that it leaves
-pub record Fetches (reply : Fetched) (buffer : List Float) (r : GlobeFetched) (after : List Float) : Type 0 where
+-- the whole contract of a fetch, of values or of a string's bytes: its reply and the buffer that it leaves
+pub record Fetches {A : Type 0} (reply : Fetched) (buffer : List A) (r : GlobeFetched) (after : List A) : Type 0 where
   pub shown : r ≡ fetchedFace reply
   pub left : after ≡ buffer

@@ -6,6 +6,7 @@ use Rattle.pool.specs.Empty.{emptyReply, clearReply}
 use Rattle.pool.specs.Load.{loadReply}
 use Rattle.pool.specs.Remove.{removeReply}
 use Rattle.pool.specs.Fetch.{fetchReply}
+use Rattle.pool.specs.FetchString.{stringReply}
 use Rattle.pool.specs.Totals.{totalsReply}
 use Rattle.pool.specs.Replies.{replyNumber, replyLine, fetchedNumber, fetchedCount, countsNumber, countsTexts, countsStatements, countsValues}
 use Rattle.pool.specs.declared.reply.Reply.{Reply}
@@ -39,4 +40,5 @@ pub record LosesNothing : Type 0 where
   pub remove : (label : ℕ) (m : List ℕ) → WholeReply (removeReply label m)
   pub clear : (m : List ℕ) → WholeReply (clearReply m)
   pub fetch : (name : List ℕ) (room : ℕ) (m : List ℕ) → WholeFetched (fetchReply name room m)
+  pub fetchString : (name : List ℕ) (place room : ℕ) (m : List ℕ) → WholeFetched (stringReply name place room m)
   pub totals : (m : List ℕ) → WholeCounts (totalsReply m)

@@ -17,6 +17,7 @@ ghost use Rattle.pool.specs.Empty.{emptyReply, clearReply, emptied};
 ghost use Rattle.pool.specs.Load.{loadReply, loadMemory};
 ghost use Rattle.pool.specs.Remove.{removeReply, removeMemory};
 ghost use Rattle.pool.specs.Fetch.{fetchReply, fetchBuffer};
+ghost use Rattle.pool.specs.FetchString.{stringReply, stringBuffer};
 ghost use Rattle.pool.specs.Totals.{totalsReply};
 ghost use Rattle.globe.specs.Orientation.{orientationReply};
 ghost use Rattle.globe.specs.Radii.{radiiReply};
@@ -63,6 +64,18 @@ pub extern "C" fn globe_fetch(pool: &[u64], name: &[u8], buffer: &mut [f64]) -> 
     ensures { λ r. ⌜ Fetches (fetchReply (now (name .entry)) (length (now (buffer .entry))) (now (pool .entry))) (fetchBuffer (now (name .entry)) (now (pool .entry)) (now (buffer .entry))) r (now (buffer .exit)) ⌝ }
 {
     face::fetched_face(calls::fetch(pool, name, buffer))
+}
+
+#[no_mangle]
+pub extern "C" fn globe_fetch_string(
+    pool: &[u64],
+    name: &[u8],
+    place: usize,
+    buffer: &mut [u8],
+) -> GlobeFetched
+    ensures { λ r. ⌜ Fetches (stringReply (now (name .entry)) place (length (now (buffer .entry))) (now (pool .entry))) (stringBuffer (now (name .entry)) place (now (pool .entry)) (now (buffer .entry))) r (now (buffer .exit)) ⌝ }
+{
+    face::fetched_face(calls::fetch_string(pool, name, place, buffer))
 }
 
 #[no_mangle]
