@@ -1,6 +1,7 @@
 -- "The listing program reads one text from standard input, up to the text limit, loads it into an empty pool and prints the
 -- variables in byte order of names, each with its count, then how many values these variables have together and the bits of each,
--- in the same order. Refused, it prints `refused N line L`." Definitions only.
+-- in the same order. Refused, it prints `refused N line L`." "The listing shows a string quoted, as written, in place of bits."
+-- Definitions only.
 use Prim.Native.Nat.{ℕ}
 use mathlib.Core.List.{List, [], _∷_, _++_}
 use Rattle.plain.specs.Ascii.{ascii}

@@ -8,7 +8,7 @@ ghost use Rattle.words.specs.Placed.{Writes};
 ghost use Rattle.listing.specs.Input.{printed};
 
 // The bytes from the output's start on; how many they are.
-pub fn answer(room: &[u8], input: Input, out: &mut [u8; 79931]) -> usize
+pub fn answer(room: &[u8], input: Input, out: &mut [u8; 96315]) -> usize
     ensures { λ r. ⌜ Writes 0 (printed (now (room .entry)) input) (now (out .entry)) r (now (out .exit)) ⌝ }
 {
     match input {

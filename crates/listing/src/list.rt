@@ -21,7 +21,7 @@ ghost use Rattle.listing.specs.Lists.{Lists};
 const LABEL: u32 = 0;
 
 // The bytes from the output's start on; how many they are.
-pub fn list(text: &[u8], out: &mut [u8; 79931]) -> usize
+pub fn list(text: &[u8], out: &mut [u8; 96315]) -> usize
     ensures { λ r. ⌜ Lists (now (text .entry)) (now (out .entry)) r (now (out .exit)) ⌝ }
 {
     let mut memory = no_memory();
@@ -44,8 +44,8 @@ fn write_refusal(out: &mut [u8], number: u64, line: u64) -> usize
 }
 
 // Room for a pool.
-fn no_memory() -> [u64; 5651]
+fn no_memory() -> [u64; 6676]
     ensures { λ r. ⌜ WORDS ≡ length r ⌝ }
 {
-    [0; 5651]
+    [0; 6676]
 }

@@ -26,8 +26,8 @@ fn text_room() -> [u8; 65537]
 }
 
 // Room for every listing.
-fn listing_room() -> [u8; 79931]
+fn listing_room() -> [u8; 96315]
     ensures { λ r. ⌜ SIZE ≡ length r ⌝ }
 {
-    [0; 79931]
+    [0; 96315]
 }

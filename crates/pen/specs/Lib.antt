@@ -2,3 +2,4 @@
 pub mod Digits
 pub mod Figures
 pub mod Pen
+pub mod Quoted

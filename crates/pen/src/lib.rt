@@ -1,5 +1,6 @@
 // Bytes, numbers and lines, written at a place of a lent buffer. Each function answers the place after what it wrote.
 pub mod digits;
+pub mod quoted;
 
 use words::bytes::append;
 ghost use mathlib.Core.List.{[], _∷_, _++_};

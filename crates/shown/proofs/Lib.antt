@@ -1,7 +1,9 @@
 -- Laws of what is shown.
 mod Writing
-mod Lending
-pub mod Together
-mod Doubles
+mod Unpacked
 mod Held
+pub mod Together
+mod Strings
+mod Stated
+mod Told
 mod Showing

@@ -1,35 +1,26 @@
 -- A pool is shown part by part: each part has room, and together they are all that is shown. Assumes nothing.
-use mathlib.Core.Path.{_≡_, refl, sym, ap, ap₂, subst, _∙_}
-use mathlib.Core.Bool.{not}
-use mathlib.Core.List.{List, _++_, map}
-use Prim.Native.Nat.{ℕ, _+_, _≤_}
+use mathlib.Core.Path.{_≡_, refl, sym, ap, subst, _∙_}
+use mathlib.Core.List.{List, _++_}
+use Prim.Native.Nat.{ℕ}
 use native.Mathlib.Omega.{arith}
-use lib.Ieee.{Float, binary64, ofBits, isNan}
-use lib.ListN.{length, take, getD, length-map}
-use mir.Syntax.{w64}
-use mir.Val.{Fits}
-use Rattle.words.specs.Over.{over}
-use Rattle.words.specs.Halves.{all}
+use lib.ListN.{length}
 use Rattle.words.specs.Placed.{Room, Writes}
-use Rattle.words.proofs.Over.{length-over, part-over}
-use Rattle.words.proofs.Each.{words-of}
 use Rattle.words.proofs.Placed.{writes-same, room-first, room-then, writes-then}
 use Rattle.layout.specs.State.{Pool}
-use Rattle.layout.specs.Limits.{STATEMENTS, VALUES}
+use Rattle.layout.specs.Limits.{STATEMENTS}
 use Rattle.layout.specs.Memory.{nameWords, decode}
 use Rattle.layout.specs.Damage.{Framed}
 use Rattle.layout.proofs.Sound.{Sound, sound-of}
 use Rattle.layout.proofs.Holds.{decode-fits}
+use Rattle.variables.specs.Variables.{Datum}
 use Rattle.pen.specs.Pen.{entry}
 use Rattle.order.specs.Places.{Places, Ordering, Orders}
 use Rattle.order.proofs.Named.{length-namesAt}
-use Rattle.shown.specs.Shown as show
-use Rattle.shown.specs.Shown.{VARIABLES, namesIn, valuesOf, counts, bitLines, shown}
-use Rattle.shown.specs.Shows.{listed, doublesOf, bitsOf, valueLines, Counting, Counts, Valuing, Showing}
+use Rattle.shown.specs.Shown.{VARIABLES, VALUES, namesIn, valuesOf, counts, valueLines, shown}
+use Rattle.shown.specs.Shows.{listed, linesOf, Counting, Counts, Valuing, Showing}
 use Rattle.shown.specs.declared.Ends.{Ends}
 use Rattle.shown.proofs.Together.{values-few}
-use Rattle.shown.proofs.Held.{name-count, legible, ordered-names, small-values, word-values}
-use Rattle.shown.proofs.Doubles.{bits-back, numbers}
+use Rattle.shown.proofs.Held.{name-count, legible, ordered-names}
 
 -- ---- the parts of what is shown
 
@@ -40,13 +31,13 @@ module _ (s : Pool) where
   abbrev lines : List ℕ
   lines = counts s (namesIn s)
 
-  abbrev held : List ℕ
+  abbrev held : List Datum
   held = valuesOf s (namesIn s)
 
   abbrev middle : List ℕ
-  middle = entry show.VALUES (length held)
+  middle = entry VALUES (length held)
 
-  parts : shown s ≡ heading ++ (lines ++ (middle ++ bitLines held))
+  parts : shown s ≡ heading ++ (lines ++ (middle ++ valueLines held))
   unfolding shown
   parts = refl
 
@@ -56,8 +47,8 @@ module _ (m out : List ℕ) (W : Showing m out) where
   abbrev s : Pool
   s = decode m
 
-  abbrev vs : List ℕ
-  vs = held (decode m)
+  abbrev last : List ℕ
+  last = valueLines (held (decode m))
 
   undamaged : Sound m
   undamaged = sound-of m (W .whole)
@@ -85,74 +76,58 @@ module _ (m out : List ℕ) (W : Showing m out) where
     heads : entry VARIABLES count ≡ heading s
     heads = ap (entry VARIABLES) counted
 
-    rooms : Room 0 (heading s ++ (lines s ++ (middle s ++ bitLines vs))) out
+    rooms : Room 0 (heading s ++ (lines s ++ (middle s ++ last))) out
     rooms = subst (λ (l : List ℕ). Room 0 l out) (parts s) (W .room)
 
     pub room-heading : Room 0 (entry VARIABLES count) out
-    room-heading = subst (λ (l : List ℕ). Room 0 l out) (sym heads) (room-first (heading s) (lines s ++ (middle s ++ bitLines vs)) rooms)
+    room-heading = subst (λ (l : List ℕ). Room 0 l out) (sym heads) (room-first (heading s) (lines s ++ (middle s ++ last)) rooms)
 
     module _ (a : ℕ) (x : List ℕ) (w : Writes 0 (entry VARIABLES count) out a x) where
       headed : Writes 0 (heading s) out a x
       headed = writes-same heads w
 
-      room-lines : Room a (lines s ++ (middle s ++ bitLines vs)) x
-      room-lines = room-then (heading s) (lines s ++ (middle s ++ bitLines vs)) rooms headed
+      room-lines : Room a (lines s ++ (middle s ++ last)) x
+      room-lines = room-then (heading s) (lines s ++ (middle s ++ last)) rooms headed
 
-      pub counting : (values : List Float) → VALUES ≡ length values → Counting m count ps a x values
-      counting values l =
+      pub counting : Counting m count ps a x
+      counting =
           record {
             whole = W .whole;
             within = places;
-            room = subst (λ (ns : List (List ℕ)). Room a (counts s ns) x) (sym listed-names) (room-first (lines s) (middle s ++ bitLines vs) room-lines);
-            space = omega (arith, ap (λ (ns : List (List ℕ)). length (valuesOf s ns)) listed-names, values-few s, decode-fits m undamaged .values);
+            room = subst (λ (ns : List (List ℕ)). Room a (counts s ns) x) (sym listed-names) (room-first (lines s) (middle s ++ last) room-lines);
+            few = omega (arith, ap (λ (ns : List (List ℕ)). length (valuesOf s ns)) listed-names, values-few s, decode-fits m undamaged .values);
           }
 
-      module _ (values : List Float) (l : VALUES ≡ length values) (ends : Ends) (y : List ℕ) (values' : List Float)
-          (C : Counts m (listed m count ps) a x values ends y values') where
-        total : ends .total ≡ length vs
-        total = C .total ∙ ap (λ (ns : List (List ℕ)). length (valuesOf s ns)) listed-names
+      module _ (ends : Ends) (y : List ℕ) (C : Counts m (listed m count ps) a x ends y) where
+        total : entry VALUES (ends .total) ≡ middle s
+        total = ap (entry VALUES) (C .total ∙ ap (λ (ns : List (List ℕ)). length (valuesOf s ns)) listed-names)
 
         lined : Writes a (lines s) x (ends .at) y
         lined = subst (λ (ns : List (List ℕ)). Writes a (counts s ns) x (ends .at) y) listed-names (C .lines)
 
-        room-middle : Room (ends .at) (middle s ++ bitLines vs) y
-        room-middle = room-then (lines s) (middle s ++ bitLines vs) room-lines lined
+        room-middle : Room (ends .at) (middle s ++ last) y
+        room-middle = room-then (lines s) (middle s ++ last) room-lines lined
 
-        -- the values that were taken are the first ones
-        taken : values' ≡ over 0 (map (ofBits binary64) vs) values
-        taken = C .taken ∙ ap (λ (ns : List (List ℕ)). over 0 (doublesOf m ns) values) listed-names
+        pub room-total : Room (ends .at) (entry VALUES (ends .total)) y
+        room-total = subst (λ (l : List ℕ). Room (ends .at) l y) (sym total) (room-first (middle s) last room-middle)
 
-        few : length vs ≤ length values
-        few = omega (arith, values-few s, decode-fits m undamaged .values)
+        module _ (b : ℕ) (z : List ℕ) (v : Writes (ends .at) (entry VALUES (ends .total)) y b z) where
+          totalled : Writes (ends .at) (middle s) y b z
+          totalled = writes-same total v
 
-        total-few : ends .total ≤ length values'
-        total-few = omega (arith, total, few, ap length taken, length-over 0 (map (ofBits binary64) vs) values)
+          last= : linesOf m (listed m count ps) ≡ last
+          last= = ap (linesOf m) listed-names
 
-        firsts : take (ends .total) values' ≡ map (ofBits binary64) vs
-        firsts =
-            let D : List Float = map (ofBits binary64) vs in
-            let k : ends .total ≡ length D = total ∙ sym (length-map vs (ofBits binary64)) in
-            ap₂ (λ (n : ℕ) (l : List Float). take n l) k taken ∙ part-over 0 D values (omega (arith, few, length-map vs (ofBits binary64)))
-
-        module _ (f : (i : ℕ) → Fits w64 (getD m i 0)) where
-          bits : bitsOf (take (ends .total) values') ≡ vs
-          bits =
-              ap bitsOf firsts
-              ∙ bits-back vs (word-values m undamaged (words-of m (λ i. f i .fits)) (namesIn s)) (small-values m undamaged (namesIn s))
-
-          rests : valueLines (ends .total) values' ≡ middle s ++ bitLines vs
-          rests = ap₂ (λ (n : ℕ) (ws : List ℕ). entry show.VALUES n ++ bitLines ws) total bits
-
-          pub valuing : Valuing ends values' y
+          pub valuing : Valuing m count ps b z
           valuing =
               record {
-                few = total-few;
-                numbers = ap (all (λ x. not (isNan x))) firsts ∙ numbers vs (small-values m undamaged (namesIn s));
-                room = subst (λ (l : List ℕ). Room (ends .at) l y) (sym rests) room-middle;
+                whole = W .whole;
+                within = places;
+                room = subst (λ (l : List ℕ). Room b l z) (sym last=) (room-then (middle s) last room-middle totalled);
               }
 
-          pub all-shown : (r : ℕ) (o : List ℕ) → Writes (ends .at) (valueLines (ends .total) values') y r o → Writes 0 (shown s) out r o
-          all-shown r o w =
+          pub all-shown : {r : ℕ} {o : List ℕ} → Writes b (linesOf m (listed m count ps)) z r o → Writes 0 (shown s) out r o
+          all-shown u =
               writes-same (sym (parts s))
-              (writes-then (heading s) (lines s ++ (middle s ++ bitLines vs)) headed
-              (writes-then (lines s) (middle s ++ bitLines vs) lined (writes-same rests w)))
+              (writes-then (heading s) (lines s ++ (middle s ++ last)) headed
+              (writes-then (lines s) (middle s ++ last) lined (writes-then (middle s) last totalled (writes-same last= u))))
