@@ -19,6 +19,7 @@ pub fn answer(line: &[u8], text: &[u8], words: &mut [u64], size: usize) {
         b'r' => changes::remove(fields, words, size),
         b'c' => changes::clear(words, size),
         b'f' => queries::fetch(fields, words, size),
+        b'q' => queries::quoted(fields, words, size),
         b't' => queries::totals(words, size),
         b'w' => memory::put(fields, words),
         _ => {}

@@ -12,12 +12,12 @@ use libc::STDIN_FILENO;
 const START: u64 = 0xA5A5A5A5A5A5A5A5;
 
 // The words of a pool.
-const WORDS: usize = 5651;
+const WORDS: usize = 6676;
 
 fn main() {
     let mut room = script::room();
     let count = io::read_full(STDIN_FILENO, &mut room);
-    let mut words = [START; 5700];
+    let mut words = [START; 6725];
     each(&room[..count], &mut words);
 }
 

@@ -1,13 +1,13 @@
 // A line for each text.
 use text::Checked;
-use text::faults;
-use text::faults::Fault;
+use value::faults;
+use value::faults::Fault;
 
 pub fn text(place: u64, text: &[u8]) {
     print::decimal(place);
     let checked = text::check(text);
     match checked {
-        Checked::Admitted(statements, values) => admitted(statements, values),
+        Checked::Admitted(statements, values, _) => admitted(statements, values),
         Checked::Refused(fault, line, _) => refused(fault, line),
     }
     print::end_line();

@@ -1,68 +1,94 @@
-//! Orientation and radii from a pool: document 01, "Elements wanted".
+//! Orientation and radii from a pool: document 01, "Elements wanted", and 16 of K2 of document 02.
 
 use std::io::Write;
 
 use crate::layout::Held;
 use crate::limits::{ANGLE_VALUES, COEFFICIENTS, NAME_BYTES, POLYNOMIAL_VALUES};
-use crate::pool::{copy_variable, variable, Variable};
 use crate::refusal::Refusal;
 use crate::rotation::{check_epoch, evaluate, Elements, Nutation, Orientation};
+use crate::variable::Variable;
 
 /// The values of BODYn_RADII.
 const RADII_VALUES: usize = 3;
 
 /// The orientation of a body by the variables of a pool.
-/// Whether variables are there is asked of all of them before any count.
+/// Whether variables are there is asked of all of them before any kind, and kinds before any count.
 pub fn orientation(pool: &[u64], code: u32, epoch: f64) -> Result<Orientation, Refusal> {
     let held = Held::of(pool)?;
     check_epoch(epoch)?;
-    let system = system(code).ok_or(Refusal::UnknownBody)?;
+    let wanted = Wanted::found(&held, code)?;
+    are_numbers(wanted.all())?;
 
-    let ra = body_variable(&held, code, "POLE_RA");
-    let dec = body_variable(&held, code, "POLE_DEC");
-    let pm = body_variable(&held, code, "PM");
-    let (ra, dec, pm) = match (ra, dec, pm) {
-        (None, None, None) => return Err(Refusal::UnknownBody),
-        (Some(ra), Some(dec), Some(pm)) => (ra, dec, pm),
-        _ => return Err(Refusal::Incomplete),
-    };
-    let nut_ra = body_variable(&held, code, "NUT_PREC_RA");
-    let nut_dec = body_variable(&held, code, "NUT_PREC_DEC");
-    let nut_pm = body_variable(&held, code, "NUT_PREC_PM");
-    let angles = if nut_ra.is_some() || nut_dec.is_some() || nut_pm.is_some() {
-        let angles = body_variable(&held, system, "NUT_PREC_ANGLES");
-        Some(angles.ok_or(Refusal::Incomplete)?)
-    } else {
-        None
-    };
-
+    let [ra, dec, pm] = &wanted.elements;
     let elements = Elements {
-        ra: polynomial(&held, &ra)?,
-        dec: polynomial(&held, &dec)?,
-        pm: polynomial(&held, &pm)?,
+        ra: polynomial(&held, ra)?,
+        dec: polynomial(&held, dec)?,
+        pm: polynomial(&held, pm)?,
     };
-    let longest = [&nut_ra, &nut_dec, &nut_pm]
-        .into_iter()
-        .map(|coefficients| coefficients.as_ref().map_or(0, |c| c.count))
-        .max()
-        .unwrap_or(0);
-    if let Some(angles) = &angles {
-        let count = angles.count;
-        if count % 2 != 0 || count > ANGLE_VALUES || count < 2 * longest {
-            return Err(Refusal::WrongCount);
-        }
-    }
+    wanted.check_angles()?;
     let mut angle_room = [0.0; ANGLE_VALUES];
-    let mut ra_room = [0.0; COEFFICIENTS];
-    let mut dec_room = [0.0; COEFFICIENTS];
-    let mut pm_room = [0.0; COEFFICIENTS];
+    let mut rooms = [[0.0; COEFFICIENTS]; 3];
+    let [ra_room, dec_room, pm_room] = &mut rooms;
+    let [ra, dec, pm] = &wanted.terms;
     let nutation = Nutation {
-        angles: values(&held, &angles, &mut angle_room),
-        ra: values(&held, &nut_ra, &mut ra_room),
-        dec: values(&held, &nut_dec, &mut dec_room),
-        pm: values(&held, &nut_pm, &mut pm_room),
+        angles: values(&held, &wanted.angles, &mut angle_room),
+        ra: values(&held, ra, ra_room),
+        dec: values(&held, dec, dec_room),
+        pm: values(&held, pm, pm_room),
     };
     Ok(evaluate(&elements, &nutation, epoch))
+}
+
+/// The variables that an orientation meets: those of RA, DEC and PM, the terms that are there, and
+/// the angles if any term is.
+struct Wanted {
+    elements: [Variable; 3],
+    terms: [Option<Variable>; 3],
+    angles: Option<Variable>,
+}
+
+impl Wanted {
+    /// What a body has of them, unless something is missing.
+    fn found(held: &Held, code: u32) -> Result<Wanted, Refusal> {
+        let system = system(code).ok_or(Refusal::UnknownBody)?;
+        let elements = ["POLE_RA", "POLE_DEC", "PM"].map(|word| body_variable(held, code, word));
+        let elements = match elements {
+            [None, None, None] => return Err(Refusal::UnknownBody),
+            [Some(ra), Some(dec), Some(pm)] => [ra, dec, pm],
+            _ => return Err(Refusal::Incomplete),
+        };
+        let terms = ["NUT_PREC_RA", "NUT_PREC_DEC", "NUT_PREC_PM"]
+            .map(|word| body_variable(held, code, word));
+        let angles = if terms.iter().any(Option::is_some) {
+            let angles = body_variable(held, system, "NUT_PREC_ANGLES");
+            Some(angles.ok_or(Refusal::Incomplete)?)
+        } else {
+            None
+        };
+        Ok(Wanted {
+            elements,
+            terms,
+            angles,
+        })
+    }
+
+    fn all(&self) -> impl Iterator<Item = &Variable> {
+        let terms = self.terms.iter().flatten();
+        self.elements.iter().chain(terms).chain(&self.angles)
+    }
+
+    /// Whether the angles that are there are pairs, not too many, and enough for the terms.
+    fn check_angles(&self) -> Result<(), Refusal> {
+        let Some(angles) = &self.angles else {
+            return Ok(());
+        };
+        let count = angles.count;
+        let longest = self.terms.iter().flatten().map(|term| term.count).max();
+        if count % 2 != 0 || count > ANGLE_VALUES || count < 2 * longest.unwrap_or(0) {
+            return Err(Refusal::WrongCount);
+        }
+        Ok(())
+    }
 }
 
 /// The radii of a body by the variables of a pool.
@@ -70,11 +96,12 @@ pub fn radii(pool: &[u64], code: u32) -> Result<[f64; RADII_VALUES], Refusal> {
     let held = Held::of(pool)?;
     system(code).ok_or(Refusal::UnknownBody)?;
     let variable = body_variable(&held, code, "RADII").ok_or(Refusal::UnknownBody)?;
+    are_numbers([&variable])?;
     if variable.count != RADII_VALUES {
         return Err(Refusal::WrongCount);
     }
     let mut radii = [0.0; RADII_VALUES];
-    copy_variable(&held, &variable, &mut radii);
+    variable.copy_numbers(&held, &mut radii);
     Ok(radii)
 }
 
@@ -93,7 +120,15 @@ fn body_variable(held: &Held, code: u32, word: &str) -> Option<Variable> {
     let mut free = &mut name[..];
     write!(free, "BODY{code}_{word}").ok()?;
     let length = NAME_BYTES - free.len();
-    variable(held, &name[..length])
+    Variable::find(held, &name[..length])
+}
+
+/// Nothing if no variable has a string in it.
+fn are_numbers<'a>(variables: impl IntoIterator<Item = &'a Variable>) -> Result<(), Refusal> {
+    if variables.into_iter().any(|variable| variable.has_strings) {
+        return Err(Refusal::MixedKind);
+    }
+    Ok(())
 }
 
 /// The one to three values of a pole or meridian, missing ones 0.
@@ -102,7 +137,7 @@ fn polynomial(held: &Held, variable: &Variable) -> Result<[f64; POLYNOMIAL_VALUE
     let room = values
         .get_mut(..variable.count)
         .ok_or(Refusal::WrongCount)?;
-    copy_variable(held, variable, room);
+    variable.copy_numbers(held, room);
     Ok(values)
 }
 
@@ -112,7 +147,7 @@ fn values<'a>(held: &Held, variable: &Option<Variable>, room: &'a mut [f64]) -> 
         None => &[],
         Some(variable) => {
             let room = &mut room[..variable.count];
-            copy_variable(held, variable, room);
+            variable.copy_numbers(held, room);
             room
         }
     }

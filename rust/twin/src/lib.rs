@@ -1,4 +1,5 @@
-//! The twin: document 01 implemented a second time, without looking at the proved library.
+//! The twin: document 01, with what document 02 changes, implemented a second time, without looking
+//! at the proved library.
 //! What it answers is what the library is compared with, bit for bit.
 
 pub mod angle;
@@ -11,4 +12,6 @@ pub mod listing;
 pub mod pool;
 pub mod refusal;
 pub mod rotation;
+pub mod string;
 pub mod text;
+pub mod variable;

@@ -1,4 +1,5 @@
-//! The limits of document 01, each under its name; K1 of document 02 has the one of lines.
+//! The limits of document 01, each under its name; document 02 has the one of lines in K1 and those
+//! of strings in K2.
 
 /// The bytes of a text that can be loaded.
 pub const TEXT_BYTES: usize = 65_536;
@@ -8,6 +9,9 @@ pub const LINE_BYTES: usize = 132;
 
 /// The bytes of a name.
 pub const NAME_BYTES: usize = 32;
+
+/// The bytes of a string, its quotes taken away and those inside undoubled.
+pub const STRING_BYTES: usize = 60;
 
 /// The largest whole number that a value's digits may give: 2^53.
 pub const LARGEST_WHOLE: u64 = 9_007_199_254_740_992;
@@ -19,6 +23,9 @@ pub const LARGEST_POWER: u64 = 22;
 pub const TEXTS: usize = 16;
 pub const STATEMENTS: usize = 512;
 pub const VALUES: usize = 3_072;
+
+/// The bytes of a pool's strings together.
+pub const STRING_ROOM: usize = 8_192;
 
 /// Held values are below 2 to this power in size.
 pub const VALUE_EXPONENT: u64 = 200;

@@ -1,17 +1,19 @@
-//! The listing of one text: document 01, "The listing".
+//! The listing of one text: document 01, "The listing", and strings as K2 of document 02 shows them.
 
 use std::io::{self, Write};
 
 use crate::layout::{unpack_name, Held, PackedName, WORDS};
-use crate::limits::VALUES;
-use crate::pool::{copy_variable, load, make_empty, variable};
+use crate::pool::{load, make_empty};
 use crate::refusal::Refused;
+use crate::string;
+use crate::text::Value;
+use crate::variable::Variable;
 
 /// Any label: the listing's pool holds one text.
 const LABEL: u32 = 0;
 
-/// Writes the variables of a text in byte order of names and the bits of their values, or why it
-/// is refused.
+/// Writes the variables of a text in byte order of names and their values, bits of numbers and
+/// strings as written, or why it is refused.
 pub fn list(text: &[u8], out: &mut impl Write) -> io::Result<()> {
     match listed(text) {
         Ok(lines) => out.write_all(&lines),
@@ -39,17 +41,23 @@ fn listed(text: &[u8]) -> Result<Vec<u8>, Refused> {
     let mut values = Vec::new();
     for packed in names {
         let name = unpack_name(packed);
-        if let Some(variable) = variable(&held, &name) {
-            let mut room = [0.0; VALUES];
-            copy_variable(&held, &variable, &mut room[..variable.count]);
-            values.extend_from_slice(&room[..variable.count]);
+        if let Some(variable) = Variable::find(&held, &name) {
+            values.extend(variable.values(&held));
             lines.extend_from_slice(&name);
             lines.extend_from_slice(format!(" {}\n", variable.count).as_bytes());
         }
     }
     lines.extend_from_slice(format!("values {}\n", values.len()).as_bytes());
     for value in values {
-        lines.extend_from_slice(format!("{:016X}\n", value.to_bits()).as_bytes());
+        lines.extend(shown(&value));
+        lines.push(b'\n');
     }
     Ok(lines)
+}
+
+fn shown(value: &Value) -> Vec<u8> {
+    match value {
+        Value::Number(number) => format!("{:016X}", number.to_bits()).into_bytes(),
+        Value::String(bytes) => string::written(bytes),
+    }
 }

@@ -1,4 +1,4 @@
-//! The refusals and their numbers: document 01, "Refusal numbers".
+//! The refusals and their numbers: document 01, "Refusal numbers", and K2 of document 02.
 
 /// Why a call is refused.
 #[derive(Clone, Copy, Debug, PartialEq, Eq)]
@@ -18,10 +18,11 @@ pub enum Refusal {
     NoVariable,
     ShortBuffer,
     DamagedPool,
+    MixedKind,
 }
 
 impl Refusal {
-    /// The number in document 01's table.
+    /// The number in the documents.
     pub fn number(self) -> u32 {
         match self {
             Refusal::LabelHeld => 1,
@@ -39,6 +40,7 @@ impl Refusal {
             Refusal::NoVariable => 13,
             Refusal::ShortBuffer => 14,
             Refusal::DamagedPool => 15,
+            Refusal::MixedKind => 16,
         }
     }
 

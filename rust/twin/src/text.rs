@@ -1,10 +1,12 @@
-//! A text to its statements: document 01, "Text rules", with the lines of K1 of document 02.
-//! One scanner reads a text line by line and tells a sink what it meets; it keeps no more than
-//! whether a list is open. Reading from left to right, the first fault met is the first there is.
+//! A text to its statements: document 01, "Text rules", with the lines of K1 and the strings of K2
+//! of document 02. One scanner reads a text line by line and tells a sink what it meets; it keeps no
+//! more than whether a list is open and of which kind. Reading from left to right, the first fault
+//! met is the first there is.
 
 use crate::decimal::{self, Reading};
 use crate::limits::{LINE_BYTES, NAME_BYTES};
 use crate::refusal::{Refusal, Refused};
+use crate::string::{self, Quoted, QUOTE};
 
 const BEGIN_DATA: &[u8] = b"\\begindata";
 const BEGIN_TEXT: &[u8] = b"\\begintext";
@@ -16,18 +18,32 @@ pub enum Operator {
     Append,
 }
 
+/// What a value is; those of one statement are all of one kind.
+#[derive(Clone, Copy, Debug, PartialEq, Eq)]
+pub enum Kind {
+    Number,
+    String,
+}
+
+#[derive(Clone, Debug, PartialEq)]
+pub enum Value {
+    Number(f64),
+    String(Vec<u8>),
+}
+
 /// One statement of a text.
 #[derive(Clone, Debug, PartialEq)]
 pub struct Statement {
     pub name: Vec<u8>,
     pub operator: Operator,
-    pub values: Vec<f64>,
+    pub values: Vec<Value>,
 }
 
 /// What is told while a text is scanned: a statement's head, then each of its values.
 pub trait Sink {
     fn head(&mut self, name: &[u8], operator: Operator);
-    fn value(&mut self, value: f64);
+    fn number(&mut self, number: f64);
+    fn string(&mut self, string: Quoted);
 }
 
 /// The statements of a text, or its first fault.
@@ -46,10 +62,19 @@ impl Sink for Vec<Statement> {
         });
     }
 
-    fn value(&mut self, value: f64) {
-        if let Some(statement) = self.last_mut() {
-            statement.values.push(value);
-        }
+    fn number(&mut self, number: f64) {
+        add_value(self, Value::Number(number));
+    }
+
+    fn string(&mut self, string: Quoted) {
+        add_value(self, Value::String(string.bytes().collect()));
+    }
+}
+
+/// One more value of the last statement.
+fn add_value(statements: &mut [Statement], value: Value) {
+    if let Some(statement) = statements.last_mut() {
+        statement.values.push(value);
     }
 }
 
@@ -70,12 +95,13 @@ pub fn scan(text: &[u8], sink: &mut impl Sink) -> Result<(), Refused> {
     }
 }
 
-/// Where a line begins: in a text section, in a data section, or there within an open list.
+/// Where a line begins: in a text section, in a data section, or there within an open list, whose
+/// kind is that of its first value.
 #[derive(Clone, Copy, PartialEq, Eq)]
 enum State {
     Text,
     Data,
-    List { empty: bool },
+    List { kind: Option<Kind> },
 }
 
 /// The first line without its end, and what follows it.
@@ -106,11 +132,11 @@ fn scan_line(state: State, line: &[u8], sink: &mut impl Sink) -> Result<State, R
             State::List { .. } => Err(Refusal::Syntax),
         };
     }
-    if !line.iter().all(|b| matches!(b, b' '..=b'~' | b'\t')) {
+    if !line.iter().all(|b| is_data_byte(*b)) {
         return Err(Refusal::BadByte);
     }
     match state {
-        State::List { empty } => scan_list(line, empty, sink),
+        State::List { kind } => scan_list(line, kind, sink),
         State::Text | State::Data => scan_statement(line, sink),
     }
 }
@@ -145,38 +171,71 @@ fn scan_statement(line: &[u8], sink: &mut impl Sink) -> Result<State, Refusal> {
     sink.head(name, operator);
     let line = skip(line, is_blank);
     if let [b'(', after @ ..] = line {
-        scan_list(after, true, sink)
+        scan_list(after, None, sink)
     } else {
-        scan_rest(scan_value(line, sink)?)
+        scan_rest(scan_value(line, kind_of(line), sink)?)
     }
 }
 
-/// A line, or the rest of one, within a list.
-fn scan_list(line: &[u8], empty: bool, sink: &mut impl Sink) -> Result<State, Refusal> {
-    let mut empty = empty;
+/// A line, or the rest of one, within a list. A value of the second kind is a fault before anything
+/// that may be wrong with it.
+fn scan_list(line: &[u8], kind: Option<Kind>, sink: &mut impl Sink) -> Result<State, Refusal> {
+    let mut kind = kind;
     let mut line = skip(line, is_separator);
     loop {
         line = match line {
-            [] => return Ok(State::List { empty }),
-            [b')', after @ ..] if !empty => return scan_rest(after),
-            _ => skip(scan_value(line, sink)?, is_separator),
+            [] => return Ok(State::List { kind }),
+            [b')', after @ ..] if kind.is_some() => return scan_rest(after),
+            _ => {
+                let next = kind_of(line);
+                if *kind.get_or_insert(next) != next {
+                    return Err(Refusal::Syntax);
+                }
+                skip(scan_value(line, next, sink)?, is_separator)
+            }
         };
-        empty = false;
     }
 }
 
-/// What follows the value at the start of a line. A bracket or a comma there, or nothing, is an
+/// The kind of the value at the start of a line: a string's first byte is a quote.
+fn kind_of(line: &[u8]) -> Kind {
+    match line {
+        [QUOTE, ..] => Kind::String,
+        _ => Kind::Number,
+    }
+}
+
+/// What follows the value at the start of a line.
+fn scan_value<'a>(line: &'a [u8], kind: Kind, sink: &mut impl Sink) -> Result<&'a [u8], Refusal> {
+    match kind {
+        Kind::Number => scan_number(line, sink),
+        Kind::String => scan_string(&line[1..], sink),
+    }
+}
+
+/// What follows the number at the start of a line. A bracket or a comma there, or nothing, is an
 /// empty run and so no value.
-fn scan_value<'a>(line: &'a [u8], sink: &mut impl Sink) -> Result<&'a [u8], Refusal> {
+fn scan_number<'a>(line: &'a [u8], sink: &mut impl Sink) -> Result<&'a [u8], Refusal> {
     let (value, after) = run(line, is_value_byte);
     match decimal::read(value) {
         Reading::Number(number) => {
-            sink.value(number);
+            sink.number(number);
             Ok(after)
         }
         Reading::Form => Err(Refusal::Syntax),
         Reading::Class => Err(Refusal::Number),
     }
+}
+
+/// What follows the string whose opening quote stands just before: a blank, comma, bracket or the
+/// line's end.
+fn scan_string<'a>(line: &'a [u8], sink: &mut impl Sink) -> Result<&'a [u8], Refusal> {
+    let (string, after) = string::read(line).ok_or(Refusal::Syntax)?;
+    if after.first().is_some_and(|b| is_value_byte(*b)) {
+        return Err(Refusal::Syntax);
+    }
+    sink.string(string);
+    Ok(after)
 }
 
 /// After a statement only blanks follow on its line.
@@ -197,6 +256,11 @@ fn run(line: &[u8], class: impl Fn(u8) -> bool) -> (&[u8], &[u8]) {
 /// What follows the longest run of a class.
 fn skip(line: &[u8], class: impl Fn(u8) -> bool) -> &[u8] {
     run(line, class).1
+}
+
+/// The bytes of data lines, and so of strings.
+pub fn is_data_byte(b: u8) -> bool {
+    matches!(b, b' '..=b'~' | b'\t')
 }
 
 fn is_blank(b: u8) -> bool {

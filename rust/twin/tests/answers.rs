@@ -133,6 +133,66 @@ fn incomplete_is_asked_before_any_count() {
     assert_eq!(asked(lines, 399), Err(Refusal::Incomplete));
 }
 
+const NUTATION: &str = "BODY399_NUT_PREC_RA = 1\nBODY399_NUT_PREC_DEC = 1\n\
+    BODY399_NUT_PREC_PM = 1\nBODY3_NUT_PREC_ANGLES = ( 30 1 )\n";
+
+#[test]
+fn a_string_in_a_variable_that_is_met() {
+    let complete = format!("{BODY}{NUTATION}");
+    assert!(asked(&complete, 399).is_ok());
+    for name in [
+        "BODY399_POLE_RA",
+        "BODY399_POLE_DEC",
+        "BODY399_PM",
+        "BODY399_NUT_PREC_RA",
+        "BODY399_NUT_PREC_DEC",
+        "BODY399_NUT_PREC_PM",
+        "BODY3_NUT_PREC_ANGLES",
+    ] {
+        for string in ["= 'a'", "= ''", "+= 'a'", "= ( 'a' 'b' 'c' 'd' )"] {
+            let lines = format!("{complete}{name} {string}\n");
+            assert_eq!(asked(&lines, 399), Err(Refusal::MixedKind), "{lines}");
+            // A direct assignment replaces strings too.
+            let mended = format!("{lines}{name} = ( 1 2 )\nBODY3_NUT_PREC_ANGLES = ( 1 2 3 4 )");
+            assert!(asked(&mended, 399).is_ok(), "{mended}");
+        }
+    }
+}
+
+#[test]
+fn other_variables_are_not_met() {
+    let captions = "BODY399_CAPTION = 'The Earth'\nBODY399_RADII = 'none'\nBODY301_PM = 'Moon'\n";
+    let angles = "BODY3_NUT_PREC_ANGLES = 'not asked for'\n";
+    let lines = format!("{BODY}{captions}{angles}");
+    assert_eq!(asked(&lines, 399), asked(BODY, 399));
+    let complete = format!("{BODY}{NUTATION}{captions}");
+    assert_eq!(
+        asked(&complete, 399),
+        asked(&format!("{BODY}{NUTATION}"), 399)
+    );
+}
+
+#[test]
+fn mixed_kinds_stand_between_incomplete_and_wrong_counts() {
+    let string = "BODY399_NUT_PREC_RA = 'a'\n";
+    assert_eq!(
+        asked(&format!("{BODY}{string}"), 399),
+        Err(Refusal::Incomplete)
+    );
+    let lines = "BODY399_POLE_RA = 'a'\nBODY399_PM = 1";
+    assert_eq!(asked(lines, 399), Err(Refusal::Incomplete));
+    assert_eq!(asked(string, 399), Err(Refusal::UnknownBody));
+    let counts = "BODY399_POLE_RA = ( 1 2 3 4 )\nBODY399_PM = 'a'\n";
+    assert_eq!(
+        asked(&format!("{BODY}{counts}"), 399),
+        Err(Refusal::MixedKind)
+    );
+    let odd = format!("{BODY}{NUTATION}BODY3_NUT_PREC_ANGLES = 1\nBODY399_NUT_PREC_PM = 'a'");
+    assert_eq!(asked(&odd, 399), Err(Refusal::MixedKind));
+    let odd = format!("{BODY}{NUTATION}BODY3_NUT_PREC_ANGLES = ( 'a' 'b' 'c' )");
+    assert_eq!(asked(&odd, 399), Err(Refusal::MixedKind));
+}
+
 #[test]
 fn refusals_come_in_order() {
     let mut damaged = pool_of(BODY);
@@ -180,6 +240,11 @@ fn radii_are_three() {
         ("( 1 2 )", Err(Refusal::WrongCount)),
         ("1", Err(Refusal::WrongCount)),
         ("( 1 2 3 4 )", Err(Refusal::WrongCount)),
+        ("( 'a' 'b' 'c' )", Err(Refusal::MixedKind)),
+        ("'a'", Err(Refusal::MixedKind)),
+        ("( 1 2 3 )\nBODY10_RADII += 'a'", Err(Refusal::MixedKind)),
+        ("'a'\nBODY10_RADII += ( 1 2 )", Err(Refusal::MixedKind)),
+        ("'a'\nBODY10_RADII = ( 1 2 3 )", Ok([1.0, 2.0, 3.0])),
     ] {
         let pool = pool_of(&format!("BODY10_RADII = {list}"));
         assert_eq!(radii(&pool, 10), expected);

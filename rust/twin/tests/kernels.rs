@@ -3,7 +3,7 @@
 use twin::answers::{orientation, radii};
 use twin::builtin::{builtin_orientation, builtin_radii};
 use twin::layout::WORDS;
-use twin::pool::{load, make_empty};
+use twin::pool::{fetch, fetch_string, load, make_empty};
 use twin::refusal::{Refusal, Refused};
 
 const PLANETS: &[u8] = include_bytes!("../../../examples/kernels/planets.tpc");
@@ -13,6 +13,7 @@ const MARS_MOONS: &[u8] = include_bytes!("../../../examples/kernels/mars-moons.t
 const TRITON: &[u8] = include_bytes!("../../../examples/kernels/triton.tpc");
 const EXAMPLE: &[u8] = include_bytes!("../../../examples/kernels/mars-example.tpc");
 const EXAMPLE_SHORT: &[u8] = include_bytes!("../../../examples/kernels/mars-example-short.tpc");
+const MUSEUM: &[u8] = include_bytes!("../../../examples/kernels/museum.tpc");
 
 const BODIES: [u32; 10] = [10, 199, 299, 399, 499, 599, 699, 799, 899, 999];
 const EPOCHS: [f64; 6] = [
@@ -54,6 +55,37 @@ fn the_radii_are_the_built_in_ones() {
     for code in BODIES {
         assert_eq!(radii(&pool, code), builtin_radii(code));
     }
+}
+
+#[test]
+fn captions_stand_beside_numbers() {
+    let pool = pool_of(&[MUSEUM]);
+    let mut caption = [0; 60];
+    for (body, place, expected) in [
+        (499, 1, "Mars"),
+        (499, 2, ""),
+        (
+            499,
+            5,
+            "Schiaparelli's \"canali\" turned out to be an illusion.",
+        ),
+        (499, 7, "Lent by the Observatory's Friends (until 30 May)."),
+        (301, 3, "The far side is the one without 'seas'."),
+        (399, 1, "The Earth"),
+    ] {
+        let name = format!("BODY{body}_CAPTION");
+        let length = fetch_string(&pool, name.as_bytes(), place, &mut caption).unwrap();
+        assert_eq!(&caption[..length], expected.as_bytes());
+    }
+    let past = fetch_string(&pool, b"BODY499_CAPTION", 8, &mut caption);
+    assert_eq!(past, Err(Refusal::NoVariable.into()));
+    let numbers = fetch(&pool, b"BODY499_CAPTION", &mut [0.0; 9]);
+    assert_eq!(numbers, Err(Refusal::MixedKind.into()));
+    assert_eq!(radii(&pool, 499), builtin_radii(499));
+    assert_eq!(
+        orientation(&pool, 499, 1e9).unwrap().doubles(),
+        builtin_orientation(499, 1e9).unwrap().doubles()
+    );
 }
 
 #[test]

@@ -42,11 +42,34 @@ fn what_is_overwritten_is_not_listed() {
 }
 
 #[test]
+fn strings_are_shown_as_written() {
+    lists(
+        b"\\begindata\nX='Mars'\nA=( 'it''s' '' )\nA+=1\nA+=('''' '\t\\')\n",
+        "variables 2\nA 5\nX 1\nvalues 6\n'it''s'\n''\n3FF0000000000000\n''''\n'\t\\'\n'Mars'\n",
+    );
+    let longest = "''".repeat(60);
+    lists(
+        format!("\\begindata\nX = '{longest}'").as_bytes(),
+        &format!("variables 1\nX 1\nvalues 1\n'{longest}'\n"),
+    );
+    lists(
+        b"\\begindata\nX='replaced'\nX=1\n",
+        "variables 1\nX 1\nvalues 1\n3FF0000000000000\n",
+    );
+}
+
+#[test]
 fn refusals() {
     lists(b"\\begindata\nX = ( )", "refused 5 line 2\n");
     lists(b"\\begindata\nX = 1E23", "refused 6 line 2\n");
     lists(&vec![b'\n'; 65_537], "refused 2 line 0\n");
     lists(&vec![b'\n'; 65_536], "variables 0\nvalues 0\n");
     let many = format!("\\begindata\n{}", "X=1\n".repeat(513));
+    lists(many.as_bytes(), "refused 7 line 0\n");
+    lists(b"\\begindata\nX = ( 1\n'a' )", "refused 5 line 3\n");
+    let many = format!(
+        "\\begindata\nX = (\n{})",
+        format!("'{}'\n", "x".repeat(60)).repeat(137)
+    );
     lists(many.as_bytes(), "refused 7 line 0\n");
 }

@@ -6,10 +6,10 @@ mod common;
 use common::Random;
 use twin::answers::{orientation, radii};
 use twin::layout::WORDS;
-use twin::pool::{clear, fetch, load, make_empty, remove, totals, Totals};
+use twin::pool::{clear, fetch, fetch_string, load, make_empty, remove, totals, Totals};
 use twin::refusal::{Refusal, Refused};
 use twin::rotation::{check_epoch, evaluate, Elements, Nutation, Orientation};
-use twin::text::{read, Operator, Statement};
+use twin::text::{read, Operator, Statement, Value};
 
 const HISTORIES: u64 = 4_000;
 const CALLS: u64 = 30;
@@ -51,7 +51,7 @@ const WORDS_OF_A_BODY: [&str; 8] = [
 #[test]
 fn a_pool_answers_as_its_texts_do() {
     let mut random = Random(7);
-    let mut met = [0u32; 16];
+    let mut met = [0u32; 17];
     for _ in 0..HISTORIES {
         let mut memory = vec![random.below(u64::MAX); WORDS];
         make_empty(&mut memory).unwrap();
@@ -62,7 +62,7 @@ fn a_pool_answers_as_its_texts_do() {
         }
     }
     println!("answers by number: {met:?}");
-    for number in [0, 1, 2, 5, 6, 7, 8, 9, 10, 11, 12, 13, 14] {
+    for number in [0, 1, 2, 5, 6, 7, 8, 9, 10, 11, 12, 13, 14, 16] {
         assert!(met[number] > 0, "{number} is never met");
     }
 }
@@ -70,7 +70,7 @@ fn a_pool_answers_as_its_texts_do() {
 /// One call on both sides; the number it is answered with.
 fn step(memory: &mut [u64], model: &mut Model, random: &mut Random) -> u32 {
     let before = memory.to_vec();
-    match random.below(16) {
+    match random.below(18) {
         0..=5 => {
             let label = random.one(&LABELS);
             let text = random_text(random);
@@ -108,7 +108,8 @@ fn step(memory: &mut [u64], model: &mut Model, random: &mut Random) -> u32 {
             }
             number(&answer)
         }
-        12..=14 => {
+        12..=13 => string_step(memory, model, random),
+        14..=16 => {
             let code = random.one(&BODIES);
             let epoch = random.one(&[0.0, 1e9, -3.3e10, f64::NAN]);
             let answer = orientation(memory, code, epoch);
@@ -126,6 +127,29 @@ fn step(memory: &mut [u64], model: &mut Model, random: &mut Random) -> u32 {
             answer.map_or_else(Refusal::number, |_| 0)
         }
     }
+}
+
+/// One fetch of a string on both sides.
+fn string_step(memory: &[u64], model: &Model, random: &mut Random) -> u32 {
+    let name = if random.below(2) == 0 {
+        "CAPTION".to_string()
+    } else {
+        random_name(random)
+    };
+    let place = random.below(6) as usize;
+    let room = random.one(&[0, 1, 5, 60]);
+    let mut buffer = vec![1; room];
+    let answer = fetch_string(memory, name.as_bytes(), place, &mut buffer);
+    let mut expected = vec![1; room];
+    match model.fetch_string(name.as_bytes(), place, room) {
+        Ok(string) => {
+            assert_eq!(answer, Ok(string.len()));
+            expected[..string.len()].copy_from_slice(&string);
+        }
+        Err(refusal) => assert_eq!(answer, Err(refusal.into())),
+    }
+    assert_eq!(buffer, expected);
+    number(&answer)
 }
 
 fn keeps_if_refused(memory: &[u64], before: &[u64], answer: &Result<(), Refused>) -> u32 {
@@ -161,7 +185,16 @@ impl Model {
         }
         self.texts.push((label, read(text)?));
         let totals = self.totals();
-        if totals.texts > 16 || totals.statements > 512 || totals.values > 3072 {
+        let string_bytes: usize = self
+            .statements()
+            .flat_map(|statement| &statement.values)
+            .map(|value| string_of(value).map_or(0, |string| string.len()))
+            .sum();
+        if totals.texts > 16
+            || totals.statements > 512
+            || totals.values > 3072
+            || string_bytes > 8192
+        {
             self.texts.pop();
             return Err(Refusal::NoRoom.into());
         }
@@ -189,7 +222,7 @@ impl Model {
         self.texts.iter().flat_map(|(_, statements)| statements)
     }
 
-    fn variable(&self, name: &[u8]) -> Option<Vec<f64>> {
+    fn variable(&self, name: &[u8]) -> Option<Vec<Value>> {
         let of_name: Vec<&Statement> = self.statements().filter(|s| s.name == name).collect();
         let last_direct = of_name
             .iter()
@@ -204,13 +237,27 @@ impl Model {
 
     fn fetch(&self, name: &[u8], room: usize) -> Result<Vec<f64>, Refusal> {
         let values = self.variable(name).ok_or(Refusal::NoVariable)?;
-        if values.len() > room {
+        let numbers = numbers_of(&values)?;
+        if numbers.len() > room {
             return Err(Refusal::ShortBuffer);
         }
-        Ok(values)
+        Ok(numbers)
     }
 
-    fn body(&self, code: u32, word: &str) -> Option<Vec<f64>> {
+    fn fetch_string(&self, name: &[u8], place: usize, room: usize) -> Result<Vec<u8>, Refusal> {
+        let values = self.variable(name).ok_or(Refusal::NoVariable)?;
+        if place == 0 || place > values.len() {
+            return Err(Refusal::NoVariable);
+        }
+        let strings: Option<Vec<&Vec<u8>>> = values.iter().map(string_of).collect();
+        let string = strings.ok_or(Refusal::MixedKind)?[place - 1];
+        if string.len() > room {
+            return Err(Refusal::ShortBuffer);
+        }
+        Ok(string.clone())
+    }
+
+    fn body(&self, code: u32, word: &str) -> Option<Vec<Value>> {
         self.variable(format!("BODY{code}_{word}").as_bytes())
     }
 
@@ -231,9 +278,14 @@ impl Model {
         if elements.iter().any(Option::is_none) || (wants_angles && angles.is_none()) {
             return Err(Refusal::Incomplete);
         }
-        let [ra, dec, pm] = elements.map(|values| values.unwrap_or_default());
-        let terms = terms.map(|values| values.unwrap_or_default());
-        let angles = angles.unwrap_or_default();
+        let angles = angles.filter(|_| wants_angles);
+        let all = elements.iter().chain(&terms).chain([&angles]).flatten();
+        for values in all {
+            numbers_of(values)?;
+        }
+        let [ra, dec, pm] = elements.map(numbers_or_none);
+        let terms = terms.map(numbers_or_none);
+        let angles = numbers_or_none(angles);
         let longest = terms.iter().map(Vec::len).max().unwrap_or(0);
         let wrong_angles = angles.len() % 2 == 1 || angles.len() > 64 || angles.len() < 2 * longest;
         if [&ra, &dec, &pm].iter().any(|values| values.len() > 3) || (wants_angles && wrong_angles)
@@ -259,8 +311,29 @@ impl Model {
             return Err(Refusal::UnknownBody);
         }
         let radii = self.body(code, "RADII").ok_or(Refusal::UnknownBody)?;
+        let radii = numbers_of(&radii)?;
         radii.try_into().map_err(|_| Refusal::WrongCount)
     }
+}
+
+fn string_of(value: &Value) -> Option<&Vec<u8>> {
+    match value {
+        Value::Number(_) => None,
+        Value::String(string) => Some(string),
+    }
+}
+
+/// The values of a variable, if all are numbers.
+fn numbers_of(values: &[Value]) -> Result<Vec<f64>, Refusal> {
+    let numbers = values.iter().map(|value| match value {
+        Value::Number(number) => Ok(*number),
+        Value::String(_) => Err(Refusal::MixedKind),
+    });
+    numbers.collect()
+}
+
+fn numbers_or_none(values: Option<Vec<Value>>) -> Vec<f64> {
+    numbers_of(&values.unwrap_or_default()).unwrap_or_default()
 }
 
 fn padded(values: &[f64]) -> [f64; 3] {
@@ -280,7 +353,7 @@ fn random_name(random: &mut Random) -> String {
 /// A text: a whole body, some statements, many of them, or a faulty one.
 fn random_text(random: &mut Random) -> Vec<u8> {
     let mut text = String::from("\\begindata\n");
-    match random.below(12) {
+    match random.below(14) {
         0..=4 => {
             let body = random.one(&BODIES);
             for word in ["POLE_RA", "POLE_DEC", "PM", "RADII"] {
@@ -334,9 +407,35 @@ fn random_text(random: &mut Random) -> Vec<u8> {
             add(&mut text, random, "MANY", " += ", count);
         }
         10 => text = "\n".repeat(65_530 + random.below(12) as usize),
-        _ => text.push_str(random.one(&["X = ?", "X = 1\nY = 1E23", "X = ( 1"])),
+        11..=12 => add_strings(&mut text, random),
+        _ => text.push_str(random.one(&["X = ?", "X = 1\nY = 1E23", "X = ( 1", "X = 'a"])),
     }
     text.into_bytes()
+}
+
+/// Captions, mostly under their own name, now and then so many that no room is left.
+fn add_strings(text: &mut String, random: &mut Random) {
+    for _ in 0..random.one(&[1, 2, 5, 60]) {
+        let name = if random.below(4) == 0 {
+            random_name(random)
+        } else {
+            "CAPTION".to_string()
+        };
+        text.push_str(&name);
+        text.push_str(random.one(&[" = (", " += (", " += ("]));
+        for _ in 0..1 + random.below(3) {
+            let length = random.one(&[0, 1, 4, 7, 8, 9, 60]) as usize;
+            let bytes = random.one(&["caption", "''", "\t (,) ", "it''s "]);
+            text.push_str(&format!("\n'{}'", repeated(bytes, length)));
+        }
+        text.push_str(")\n");
+    }
+}
+
+/// What stands for so many bytes at most: quotes are not torn apart.
+fn repeated(written: &str, length: usize) -> String {
+    let bytes = written.replace("''", "'").len();
+    written.repeat(length / bytes)
 }
 
 fn add(text: &mut String, random: &mut Random, name: &str, operator: &str, count: u64) {

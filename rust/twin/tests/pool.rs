@@ -1,7 +1,7 @@
 //! The pool: each call, each refusal, and every word of the memory.
 
 use twin::layout::WORDS;
-use twin::pool::{clear, fetch, load, make_empty, remove, totals, Totals};
+use twin::pool::{clear, fetch, fetch_string, load, make_empty, remove, totals, Totals};
 use twin::refusal::{Refusal, Refused};
 
 /// What memory holds before it is a pool.
@@ -29,6 +29,15 @@ fn values(pool: &[u64], name: &str) -> Result<Vec<f64>, Refusal> {
     let mut buffer = vec![0.0; 3072];
     match fetch(pool, name.as_bytes(), &mut buffer) {
         Ok(count) => Ok(buffer[..count].to_vec()),
+        Err(refused) => Err(refused.refusal),
+    }
+}
+
+/// The string at a place of a variable.
+fn string_at(pool: &[u64], name: &str, place: usize) -> Result<String, Refusal> {
+    let mut buffer = [0; 60];
+    match fetch_string(pool, name.as_bytes(), place, &mut buffer) {
+        Ok(length) => Ok(String::from_utf8(buffer[..length].to_vec()).unwrap()),
         Err(refused) => Err(refused.refusal),
     }
 }
@@ -87,30 +96,51 @@ fn the_words_of_a_load() {
     load(&mut pool, 7, &data(&format!("X = ( 1 -2 )\n{name} += 0.5"))).unwrap();
     load(&mut pool, u32::MAX, b"text").unwrap();
     let mut expected = vec![GARBAGE; WORDS];
-    expected[..5].copy_from_slice(&[2, 2, 3, 7 << 32 | 2, 0xFFFF_FFFF << 32]);
-    expected[19] = 2;
-    expected[20] = 1 << 32 | 1;
-    expected[531..535].copy_from_slice(&[0x58 << 56, 0, 0, 0]);
+    expected[..6].copy_from_slice(&[2, 2, 3, 0, 7 << 32 | 2, 0xFFFF_FFFF << 32]);
+    expected[20] = 2;
+    expected[21] = 1 << 32 | 1;
+    expected[532..536].copy_from_slice(&[0x58 << 56, 0, 0, 0]);
     for (i, chunk) in name.as_bytes().chunks(8).enumerate() {
-        expected[535 + i] = u64::from_be_bytes(chunk.try_into().unwrap());
+        expected[536 + i] = u64::from_be_bytes(chunk.try_into().unwrap());
     }
-    expected[2579] = 1.0f64.to_bits();
-    expected[2580] = (-2.0f64).to_bits();
-    expected[2581] = 0.5f64.to_bits();
+    expected[2580] = 1.0f64.to_bits();
+    expected[2581] = (-2.0f64).to_bits();
+    expected[2582] = 0.5f64.to_bits();
+    assert_eq!(pool, expected);
+}
+
+#[test]
+fn the_words_of_a_load_with_strings() {
+    let mut pool = empty_pool();
+    load(
+        &mut pool,
+        7,
+        &data("X = ( 'Mars' '' 'it''s red' )\nY = 1\nX += 'a'"),
+    )
+    .unwrap();
+    let mut expected = vec![GARBAGE; WORDS];
+    expected[..5].copy_from_slice(&[1, 3, 5, 13, 7 << 32 | 3]);
+    expected[20..23].copy_from_slice(&[2 << 32 | 3, 1, 3 << 32 | 1]);
+    for (place, name) in [0x58, 0x59, 0x58].into_iter().enumerate() {
+        expected[532 + 4 * place..][..4].copy_from_slice(&[name << 56, 0, 0, 0]);
+    }
+    expected[2580..2585].copy_from_slice(&[4, 0, 8, 1.0f64.to_bits(), 1]);
+    expected[5652] = u64::from_be_bytes(*b"Marsit's");
+    expected[5653] = u64::from_be_bytes(*b" reda\xA5\xA5\xA5");
     assert_eq!(pool, expected);
 }
 
 #[test]
 fn emptying_writes_the_totals_only() {
-    let mut pool = pool_of(&[(1, "X = ( 1 2 )\nY = 3")]);
+    let mut pool = pool_of(&[(1, "X = ( 1 2 )\nY = 'a'")]);
     let mut expected = pool.clone();
-    expected[..3].fill(0);
+    expected[..4].fill(0);
     clear(&mut pool).unwrap();
     assert_eq!(pool, expected);
     let mut memory = vec![GARBAGE; WORDS];
     make_empty(&mut memory).unwrap();
-    assert_eq!(memory[..3], [0, 0, 0]);
-    assert!(memory[3..].iter().all(|word| *word == GARBAGE));
+    assert_eq!(memory[..4], [0, 0, 0, 0]);
+    assert!(memory[4..].iter().all(|word| *word == GARBAGE));
 }
 
 #[test]
@@ -118,14 +148,38 @@ fn a_removal_closes_the_gaps_and_leaves_the_ends() {
     let mut pool = pool_of(&[(1, "X = ( 1 2 )"), (2, "Y = 3\nZ = ( 4 5 )"), (3, "X += 6")]);
     let mut expected = pool.clone();
     remove(&mut pool, 2).unwrap();
-    expected[..3].copy_from_slice(&[2, 2, 3]);
-    expected[4] = expected[5];
-    expected[20] = expected[22];
-    expected.copy_within(531 + 12..531 + 16, 535);
-    expected[2581] = expected[2584];
+    expected[..4].copy_from_slice(&[2, 2, 3, 0]);
+    expected[5] = expected[6];
+    expected[21] = expected[23];
+    expected.copy_within(532 + 12..532 + 16, 536);
+    expected[2582] = expected[2585];
     assert_eq!(pool, expected);
     assert_eq!(values(&pool, "X"), Ok(vec![1.0, 2.0, 6.0]));
     assert_eq!(values(&pool, "Y"), Err(Refusal::NoVariable));
+}
+
+#[test]
+fn a_removal_closes_the_gap_between_strings_too() {
+    let mut pool = pool_of(&[
+        (1, "X = ( 'one' 'two' )"),
+        (2, "N = ( 1 2 )\nY = ( 'gone' '' 'gone too' )"),
+        (3, "X += ( 'the third' 'text' )"),
+    ]);
+    let mut expected = pool.clone();
+    remove(&mut pool, 2).unwrap();
+    expected[..4].copy_from_slice(&[2, 2, 4, 19]);
+    expected[5] = expected[6];
+    expected[21] = expected[23];
+    expected.copy_within(532 + 12..532 + 16, 536);
+    expected.copy_within(2580 + 7..2580 + 9, 2582);
+    // The bytes from the 20th on are what they were.
+    let words = [*b"onetwoth", *b"e thirdt", *b"exthe th", *b"irdtext\xA5"];
+    expected[5652..5656].copy_from_slice(&words.map(u64::from_be_bytes));
+    assert_eq!(pool, expected);
+    for (place, string) in ["one", "two", "the third", "text"].into_iter().enumerate() {
+        assert_eq!(string_at(&pool, "X", place + 1), Ok(string.to_string()));
+    }
+    assert_eq!(string_at(&pool, "Y", 1), Err(Refusal::NoVariable));
 }
 
 #[test]
@@ -149,6 +203,128 @@ fn a_fetch_writes_the_buffer_s_start_only() {
     );
     assert_eq!(short, [9.0; 2]);
     assert_eq!(fetch(&pool, b"X", &mut [0.0; 3]), Ok(3));
+}
+
+#[test]
+fn a_string_is_written_to_the_buffer_s_start_only() {
+    let pool = pool_of(&[(1, "X = ( 'ab' '' 'it''s' )")]);
+    let mut buffer = *b"------";
+    assert_eq!(fetch_string(&pool, b"X", 3, &mut buffer), Ok(4));
+    assert_eq!(&buffer, b"it's--");
+    assert_eq!(fetch_string(&pool, b"X", 1, &mut buffer[..2]), Ok(2));
+    assert_eq!(&buffer, b"ab's--");
+    assert_eq!(fetch_string(&pool, b"X", 2, &mut buffer), Ok(0));
+    assert_eq!(fetch_string(&pool, b"X", 2, &mut []), Ok(0));
+    for (place, room, refusal) in [
+        (1, 1, Refusal::ShortBuffer),
+        (3, 3, Refusal::ShortBuffer),
+        (3, 0, Refusal::ShortBuffer),
+        (0, 6, Refusal::NoVariable),
+        (4, 6, Refusal::NoVariable),
+        (4, 0, Refusal::NoVariable),
+        (usize::MAX, 6, Refusal::NoVariable),
+    ] {
+        let fetched = fetch_string(&pool, b"X", place, &mut buffer[..room]);
+        assert_eq!(fetched, Err(refusal.into()), "{place} {room}");
+    }
+    assert_eq!(
+        fetch_string(&pool, b"Y", 1, &mut buffer),
+        Err(Refusal::NoVariable.into())
+    );
+    assert_eq!(&buffer, b"ab's--");
+}
+
+#[test]
+fn both_kinds_under_one_name() {
+    let mut pool = pool_of(&[(1, "X = 1"), (2, "X += ( 'a' 'b' )"), (3, "X += 2")]);
+    assert_eq!(totals(&pool), held(3, 3, 4));
+    for (name, place) in [("X", 1), ("X", 2), ("X", 4)] {
+        assert_eq!(string_at(&pool, name, place), Err(Refusal::MixedKind));
+    }
+    // 13 is asked before 16, and 16 before 14.
+    assert_eq!(string_at(&pool, "X", 0), Err(Refusal::NoVariable));
+    assert_eq!(string_at(&pool, "X", 5), Err(Refusal::NoVariable));
+    assert_eq!(
+        fetch_string(&pool, b"X", 2, &mut []),
+        Err(Refusal::MixedKind.into())
+    );
+    assert_eq!(fetch(&pool, b"X", &mut []), Err(Refusal::MixedKind.into()));
+    assert_eq!(values(&pool, "X"), Err(Refusal::MixedKind));
+    remove(&mut pool, 2).unwrap();
+    assert_eq!(values(&pool, "X"), Ok(vec![1.0, 2.0]));
+    assert_eq!(string_at(&pool, "X", 1), Err(Refusal::MixedKind));
+    assert_eq!(string_at(&pool, "X", 3), Err(Refusal::NoVariable));
+    load(&mut pool, 4, &data("X = 'now a string'")).unwrap();
+    assert_eq!(string_at(&pool, "X", 1), Ok("now a string".to_string()));
+    assert_eq!(values(&pool, "X"), Err(Refusal::MixedKind));
+    load(&mut pool, 5, &data("X = 7")).unwrap();
+    assert_eq!(values(&pool, "X"), Ok(vec![7.0]));
+    remove(&mut pool, 5).unwrap();
+    assert_eq!(string_at(&pool, "X", 1), Ok("now a string".to_string()));
+}
+
+/// Strings of so many bytes together, one a statement.
+fn captions(bytes: usize) -> Vec<u8> {
+    let lines: String = (0..bytes.div_ceil(60))
+        .map(|i| format!("C += '{}'\n", "c".repeat(60.min(bytes - 60 * i))))
+        .collect();
+    data(&lines)
+}
+
+#[test]
+fn the_room_of_strings() {
+    let mut pool = empty_pool();
+    refuses(
+        &mut pool,
+        |p| load(p, 1, &captions(8193)),
+        at(Refusal::NoRoom, 0),
+    );
+    load(&mut pool, 1, &captions(8192)).unwrap();
+    refuses(
+        &mut pool,
+        |p| load(p, 2, &captions(1)),
+        at(Refusal::NoRoom, 0),
+    );
+    load(&mut pool, 2, &data("E = ( '' '' )\nN = 1")).unwrap();
+    assert_eq!(string_at(&pool, "C", 137), Ok("c".repeat(32)));
+    remove(&mut pool, 1).unwrap();
+    load(&mut pool, 1, &captions(8191)).unwrap();
+    refuses(
+        &mut pool,
+        |p| load(p, 3, &data("C = ''''''")),
+        at(Refusal::NoRoom, 0),
+    );
+    // What is shadowed takes room too, and a doubled quote takes one byte of it.
+    load(&mut pool, 3, &data("C = ''''")).unwrap();
+    refuses(
+        &mut pool,
+        |p| load(p, 4, &data("C = 'c'")),
+        at(Refusal::NoRoom, 0),
+    );
+    assert_eq!(string_at(&pool, "C", 1), Ok("'".to_string()));
+    // A fault of the text comes first.
+    let faulty = [&captions(2)[..], b"?"].concat();
+    refuses(&mut pool, |p| load(p, 4, &faulty), at(Refusal::Syntax, 3));
+}
+
+#[test]
+fn strings_count_as_values() {
+    let mut pool = empty_pool();
+    let list = |n: usize| data(&format!("A = (\n{})", "''\n".repeat(n)));
+    refuses(
+        &mut pool,
+        |p| load(p, 1, &list(3073)),
+        at(Refusal::NoRoom, 0),
+    );
+    load(&mut pool, 1, &list(3071)).unwrap();
+    refuses(
+        &mut pool,
+        |p| load(p, 2, &data("B = ( 1 2 )")),
+        at(Refusal::NoRoom, 0),
+    );
+    load(&mut pool, 2, &data("B = 1")).unwrap();
+    assert_eq!(totals(&pool), held(2, 2, 3072));
+    assert_eq!(string_at(&pool, "A", 3071), Ok(String::new()));
 }
 
 #[test]
@@ -276,11 +452,17 @@ fn is_damaged(pool: &mut [u64]) {
         Err(Refusal::DamagedPool.into())
     );
     assert_eq!(buffer, [9.0; 4]);
+    let mut buffer = [9; 4];
+    assert_eq!(
+        fetch_string(pool, b"X", 0, &mut buffer),
+        Err(Refusal::DamagedPool.into())
+    );
+    assert_eq!(buffer, [9; 4]);
 }
 
 #[test]
 fn memory_of_another_size_is_damaged() {
-    for size in [0, 1, 5650, 5652, 10_000] {
+    for size in [0, 1, 4, 5651, 6675, 6677, 10_000] {
         let mut pool = vec![0; size];
         is_damaged(&mut pool);
         refuses(&mut pool, make_empty, at(Refusal::DamagedPool, 0));
@@ -305,59 +487,160 @@ fn each_damage_and_its_neighbour() {
         &[(2, 3)],
         &[(2, 5)],
         &[(2, 4 + (1 << 32))],
+        &[(3, 1)],
+        &[(3, 8193)],
+        &[(3, 1 << 32)],
+        &[(3, u64::MAX)],
+        &[(5, 7 << 32)],
+        &[(5, 9 << 32)],
         &[(4, 7 << 32)],
-        &[(4, 9 << 32)],
-        &[(3, 7 << 32)],
-        &[(3, 7 << 32 | 2)],
-        &[(3, 7 << 32 | 0xFFFF_FFFF), (4, 8 << 32 | 2)],
-        &[(19, 2 << 32 | 3)],
-        &[(19, 2)],
-        &[(19, 4), (20, 1 << 32)],
-        &[(19, 0xFFFF_FFFF), (20, 1 << 32 | 5)],
-        &[(531, 0)],
-        &[(531, X >> 8)],
-        &[(531, X | 1)],
-        &[(532, X)],
-        &[(534, 1)],
-        &[(531, 0x2D << 56)],
-        &[(531, X | 0x80 << 48)],
-        &[(2579, TWO_200)],
-        &[(2579, TWO_200 | SIGN)],
-        &[(2582, 0x7FF0_0000_0000_0000)],
-        &[(2582, 0x7FF8_0000_0000_0001)],
-        &[(2582, u64::MAX)],
+        &[(4, 7 << 32 | 2)],
+        &[(4, 7 << 32 | 0xFFFF_FFFF), (5, 8 << 32 | 2)],
+        &[(20, 4 << 32 | 3)],
+        &[(20, 2 << 32 | 3)],
+        &[(20, 2)],
+        &[(20, 4), (21, 1 << 32)],
+        &[(20, 0xFFFF_FFFF), (21, 1 << 32 | 5)],
+        &[(532, 0)],
+        &[(532, X >> 8)],
+        &[(532, X | 1)],
+        &[(533, X)],
+        &[(535, 1)],
+        &[(532, 0x2D << 56)],
+        &[(532, X | 0x80 << 48)],
+        &[(2580, TWO_200)],
+        &[(2580, TWO_200 | SIGN)],
+        &[(2583, 0x7FF0_0000_0000_0000)],
+        &[(2583, 0x7FF8_0000_0000_0001)],
+        &[(2583, u64::MAX)],
     ];
+    are_damages(&base, damages);
+    let neighbours: &[&[(usize, u64)]] = &[
+        &[(5, 0)],
+        &[(5, 0xFFFF_FFFF << 32)],
+        &[(4, 7 << 32), (5, 8 << 32 | 1)],
+        &[(20, 1 << 32 | 3)],
+        &[(20, 1), (21, 3)],
+        &[(532, u64::from_be_bytes(*b"azAZ09_x")), (533, X)],
+        &[(2580, TWO_200 - 1), (2581, (TWO_200 - 1) | SIGN)],
+        &[(2580, SIGN), (2581, 1), (2582, 1 | SIGN)],
+        &[
+            (7, 7 << 32),
+            (22, u64::MAX),
+            (540, 0),
+            (2584, u64::MAX),
+            (5651, u64::MAX),
+            (5652, 0),
+            (6675, 1),
+        ],
+    ];
+    are_none(&base, neighbours, held(3, 2, 4));
+}
+
+/// Each set of words makes a damaged pool, which can be made empty again.
+#[track_caller]
+fn are_damages(base: &[u64], damages: &[&[(usize, u64)]]) {
     for changes in damages {
-        let mut pool = base.clone();
-        for (index, word) in *changes {
-            pool[*index] = *word;
-        }
+        let mut pool = changed(base, changes);
         is_damaged(&mut pool);
         make_empty(&mut pool).unwrap();
         assert_eq!(totals(&pool), held(0, 0, 0));
     }
-    let neighbours: &[&[(usize, u64)]] = &[
-        &[(4, 0)],
-        &[(4, 0xFFFF_FFFF << 32)],
-        &[(3, 7 << 32), (4, 8 << 32 | 1)],
-        &[(19, 1 << 32 | 3)],
-        &[(19, 1), (20, 3)],
-        &[(531, u64::from_be_bytes(*b"azAZ09_x")), (532, X)],
-        &[(2579, TWO_200 - 1), (2580, (TWO_200 - 1) | SIGN)],
-        &[(2579, SIGN), (2580, 1), (2581, 1 | SIGN)],
-        &[
-            (6, 7 << 32),
-            (21, u64::MAX),
-            (539, 0),
-            (2583, u64::MAX),
-            (5650, u64::MAX),
-        ],
-    ];
+}
+
+/// No set of words makes a damaged pool.
+#[track_caller]
+fn are_none(base: &[u64], neighbours: &[&[(usize, u64)]], expected: Result<Totals, Refused>) {
     for changes in neighbours {
-        let mut pool = base.clone();
-        for (index, word) in *changes {
-            pool[*index] = *word;
-        }
-        assert_eq!(totals(&pool), held(3, 2, 4));
+        assert_eq!(totals(&changed(base, changes)), expected, "{changes:X?}");
     }
+}
+
+fn changed(base: &[u64], changes: &[(usize, u64)]) -> Vec<u64> {
+    let mut pool = base.to_vec();
+    for (index, word) in changes {
+        pool[*index] = *word;
+    }
+    pool
+}
+
+fn word(bytes: &[u8; 8]) -> u64 {
+    u64::from_be_bytes(*bytes)
+}
+
+/// A pool of the strings "Mars", "", "red" and "caption", and of a number.
+fn pool_of_strings() -> Vec<u64> {
+    let pool = pool_of(&[(7, "X = ( 'Mars' '' 'red' )\nN = 1"), (9, "X += 'caption'")]);
+    assert_eq!(pool[..4], [2, 3, 5, 14]);
+    assert_eq!(
+        pool[5652..5654],
+        [word(b"Marsredc"), word(b"aption\xA5\xA5")]
+    );
+    pool
+}
+
+#[test]
+fn each_damage_of_strings() {
+    are_damages(
+        &pool_of_strings(),
+        &[
+            &[(3, 13)],
+            &[(3, 15)],
+            &[(3, 0)],
+            &[(3, 14 + (1 << 32))],
+            &[(3, 8193), (2580, 8183)],
+            &[(2580, 3)],
+            &[(2580, 61), (3, 71)],
+            &[(2580, u64::MAX), (2581, 5)],
+            &[(2580, (1 << 63) + 4), (2581, 1 << 63)],
+            &[(2584, 6)],
+            &[(2584, 8)],
+            // The heads: strings that are numbers, and numbers that are strings.
+            &[(20, 3)],
+            &[(20, 1 << 32 | 3)],
+            &[(20, 4 << 32 | 3)],
+            &[(20, 6 << 32 | 3)],
+            &[(21, 2 << 32 | 1)],
+            &[(22, 4 << 32 | 1)],
+            &[(22, 2 << 32)],
+            &[(22, 1 << 34 | 1)],
+            // The bytes: the first, one within, the last in use.
+            &[(5652, word(b"\narsredc"))],
+            &[(5652, word(b"Mar\x7Fredc"))],
+            &[(5652, word(b"Marsred\x80"))],
+            &[(5652, word(b"Marsred\0"))],
+            &[(5653, word(b"aptio\x1F\xA5\xA5"))],
+            &[(5653, word(b"aptio\xFF\xA5\xA5"))],
+        ],
+    );
+}
+
+#[test]
+fn neighbours_of_damages_of_strings() {
+    let spaces = word(b"        ");
+    let mut longest = vec![(2580, 60), (3, 70), (5653, word(b"aption  "))];
+    longest.extend((5654..=5660).map(|index| (index, spaces)));
+    are_none(
+        &pool_of_strings(),
+        &[
+            &[(20, 3 << 32 | 3)],
+            &[(22, 2 << 32 | 1)],
+            &[(21, 1 << 32 | 1)],
+            &[(2580, 0), (2581, 0), (2582, 7)],
+            &[(2580, 5), (2584, 6)],
+            &longest,
+            &[(5652, word(b"\t ~'\"(),"))],
+            &[(5653, word(b"aption\0\xFF"))],
+            &[(5654, 0), (6675, 0)],
+            // Numbers and strings change places with the bytes that belong to them.
+            &[
+                (21, 2 << 32 | 1),
+                (2583, 2),
+                (3, 16),
+                (5653, word(b"aption: ")),
+            ],
+            &[(22, 1 << 32 | 1), (3, 7), (2584, 7)],
+        ],
+        held(2, 3, 5),
+    );
 }

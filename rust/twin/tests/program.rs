@@ -37,10 +37,13 @@ fn orientations_have_a_line_for_every_code_and_epoch() {
     assert_eq!(all.len(), 21 * 33);
 }
 
+/// What the programs of the library read of their input.
+const INPUT_BYTES: usize = 400_000;
+
 #[test]
 fn texts_keep_their_bounds_and_meet_every_answer() {
     let input = twin("texts-input", b"");
-    assert!(input.len() < 400_000);
+    assert!(input.len() <= INPUT_BYTES);
     let answers = lines(&twin("texts", &input));
     assert!(answers.len() >= 320);
     for number in ["0", "3", "4", "5", "6"] {
@@ -54,7 +57,7 @@ fn texts_keep_their_bounds_and_meet_every_answer() {
 #[test]
 fn histories_keep_their_bounds_and_meet_every_answer() {
     let input = twin("histories-input", b"");
-    assert!(input.len() < 600_000);
+    assert!(input.len() <= INPUT_BYTES);
     let answers = lines(&twin("histories", &input));
     assert!(answers.len() >= 400);
     for (call, place, numbers) in [
@@ -62,7 +65,8 @@ fn histories_keep_their_bounds_and_meet_every_answer() {
         ("load", 2, &["0", "1", "2", "3", "4", "5", "6", "7", "15"]),
         ("remove", 2, &["0", "8", "15"]),
         ("clear", 1, &["0", "15"]),
-        ("fetch", 2, &["0", "13", "14", "15"]),
+        ("fetch", 2, &["0", "13", "14", "15", "16"]),
+        ("quoted", 3, &["0", "13", "14", "15", "16"]),
         ("totals", 1, &["0", "15"]),
     ] {
         for number in numbers {

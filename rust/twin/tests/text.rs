@@ -1,7 +1,8 @@
 //! Texts: every sentence of "Text rules", and the readings decided about them.
 
 use twin::refusal::Refusal;
-use twin::text::{read, Operator};
+use twin::string::written;
+use twin::text::{read, Operator, Value};
 
 /// Statements as `name op values`, or number and line of the refusal.
 fn told(text: impl AsRef<[u8]>) -> Result<Vec<String>, (u32, u64)> {
@@ -13,7 +14,7 @@ fn told(text: impl AsRef<[u8]>) -> Result<Vec<String>, (u32, u64)> {
                     Operator::Direct => "=",
                     Operator::Append => "+=",
                 };
-                let values: Vec<String> = s.values.iter().map(f64::to_string).collect();
+                let values: Vec<String> = s.values.iter().map(shown).collect();
                 format!(
                     "{} {operator} {}",
                     String::from_utf8_lossy(&s.name),
@@ -22,6 +23,13 @@ fn told(text: impl AsRef<[u8]>) -> Result<Vec<String>, (u32, u64)> {
             })
             .collect()),
         Err(refused) => Err((refused.refusal.number(), refused.line)),
+    }
+}
+
+fn shown(value: &Value) -> String {
+    match value {
+        Value::Number(number) => number.to_string(),
+        Value::String(bytes) => String::from_utf8(written(bytes)).unwrap(),
     }
 }
 
@@ -345,6 +353,206 @@ fn the_first_faulty_line_decides() {
 #[test]
 fn values_keep_their_order_and_signs() {
     let statements = read(data("X = ( -0, 0 +0 )").as_bytes()).unwrap();
-    let bits: Vec<u64> = statements[0].values.iter().map(|x| x.to_bits()).collect();
+    let bits: Vec<u64> = statements[0].values.iter().map(bits_of).collect();
     assert_eq!(bits, [1 << 63, 0, 0]);
+}
+
+fn bits_of(value: &Value) -> u64 {
+    match value {
+        Value::Number(number) => number.to_bits(),
+        Value::String(_) => panic!("a string where a number was written"),
+    }
+}
+
+/// The bytes of the strings of a data section's only statement.
+fn strings(line: &str) -> Vec<String> {
+    let statements = read(data(line).as_bytes()).unwrap();
+    assert_eq!(statements.len(), 1);
+    let bytes = statements[0].values.iter().map(|value| match value {
+        Value::String(bytes) => bytes.clone(),
+        Value::Number(_) => panic!("a number where a string was written"),
+    });
+    bytes
+        .map(|bytes| String::from_utf8(bytes).unwrap())
+        .collect()
+}
+
+#[test]
+fn strings_stand_in_quotes_and_quotes_are_doubled() {
+    assert_eq!(strings("X = 'Mars'"), ["Mars"]);
+    assert_eq!(
+        strings("X='Olympus Mons, (27 km)'"),
+        ["Olympus Mons, (27 km)"]
+    );
+    assert_eq!(strings("X = 'Herschel''s map'"), ["Herschel's map"]);
+    assert_eq!(strings("X = ''"), [""]);
+    assert_eq!(strings("X = ''''"), ["'"]);
+    assert_eq!(strings("X = 'a'''"), ["a'"]);
+    assert_eq!(strings("X = '''a'"), ["'a"]);
+    assert_eq!(strings("X = 'a''b'"), ["a'b"]);
+    assert_eq!(strings("X = ''''''"), ["''"]);
+    assert_eq!(strings("X = '\ta\t'"), ["\ta\t"]);
+    assert_eq!(strings("X = '\\begindata'"), ["\\begindata"]);
+    assert_eq!(strings("X = '1E99 = ( + \"'"), ["1E99 = ( + \""]);
+    assert_eq!(
+        strings("X += ( 'a' 'b','c'\n,''\n\t'd' )"),
+        ["a", "b", "c", "", "d"]
+    );
+    assert_eq!(strings("X = ('a')"), ["a"]);
+    assert_eq!(strings("X = (,'a',)\t "), ["a"]);
+    assert_eq!(strings("X = 'a' \t "), ["a"]);
+    assert_eq!(strings("X = 'a'\r\n"), ["a"]);
+    assert_eq!(strings("X = ('a'\r\n'b'\r\n)"), ["a", "b"]);
+}
+
+#[test]
+fn every_byte_of_a_data_line_may_stand_in_a_string() {
+    for byte in (32..127).chain([9]) {
+        let byte = char::from(byte);
+        let inside = if byte == '\'' {
+            "''".to_string()
+        } else {
+            byte.to_string()
+        };
+        let around = format!("X = 'a{inside}b'");
+        assert_eq!(strings(&around), [format!("a{byte}b")]);
+        assert_eq!(strings(&format!("X = '{inside}'")), [byte.to_string()]);
+    }
+    for byte in [1, 8, 11, 13, 31, 127] {
+        refused(data(&format!("X = 'a{}b'", char::from(byte))), BadByte, 2);
+    }
+    refused(b"\\begindata\nX = '\xe9'", BadByte, 2);
+    refused(data("X = ?\u{1}'"), BadByte, 2);
+}
+
+#[test]
+fn a_string_has_up_to_60_bytes_after_undoubling() {
+    for (byte, written) in [("x", "x"), ("'", "''"), (" ", " "), ("\t", "\t")] {
+        for length in [1, 59, 60] {
+            let line = format!("X = '{}'", written.repeat(length));
+            assert_eq!(strings(&line), [byte.repeat(length)]);
+        }
+        for length in [61, 62] {
+            refused(
+                data(&format!("X = '{}'", written.repeat(length))),
+                Syntax,
+                2,
+            );
+        }
+    }
+    let mixed = format!("X = '{}{}'", "''".repeat(30), "x".repeat(30));
+    assert_eq!(strings(&mixed)[0].len(), 60);
+    refused(data(&mixed.replacen("x", "xx", 1)), Syntax, 2);
+    refused(
+        data(&format!("X = ( 'a'\n'{}' )", "x".repeat(61))),
+        Syntax,
+        3,
+    );
+}
+
+#[test]
+fn a_string_is_closed_on_its_line() {
+    for line in [
+        "X = '",
+        "X = 'a",
+        "X = '''",
+        "X = 'a''",
+        "X = ('a' 'b",
+        "X = ('a' ')",
+        "X = 'a)",
+        "X = ('",
+        "X = 'a\n'",
+        "X = ('a\n')",
+        "X = '''''",
+    ] {
+        refused(data(line), Syntax, 2);
+    }
+    refused(data("X = ( 'a'\n'b\n)"), Syntax, 3);
+    refused(data("X = 'a\r'\n"), BadByte, 2);
+}
+
+#[test]
+fn a_blank_comma_bracket_or_line_end_follows_a_string() {
+    admitted(data("X = 'a'"), &["X = 'a'"]);
+    admitted(data("X = ('a','b'\t'c')"), &["X = 'a' 'b' 'c'"]);
+    // Passed by the string, and then refused by the statement.
+    for line in [
+        "X = 'a')",
+        "X = 'a'(",
+        "X = 'a',",
+        "X = 'a' 'b'",
+        "X = 'a' 1",
+        "X = ('a'('b'))",
+    ] {
+        refused(data(line), Syntax, 2);
+    }
+    for line in [
+        "X = 'a'b",
+        "X = 'a'1",
+        "X = 'a'.",
+        "X = 'a'=",
+        "X = 'a'\"",
+        "X = ('a'b)",
+        "X = ('a'1)",
+        "X = ('a'+'b')",
+        "X = 'a';",
+    ] {
+        refused(data(line), Syntax, 2);
+    }
+}
+
+#[test]
+fn only_a_first_quote_makes_a_string() {
+    for line in [
+        "X = 1'a'",
+        "X = +'a'",
+        "X = 1'",
+        "X = a'b'",
+        "X = 1'a b'",
+        "X = (1'2)",
+        "'X' = 1",
+        "X' = 1",
+        "X 'a'",
+        "X '= 1'",
+        "X = \"a\"",
+        "'",
+    ] {
+        refused(data(line), Syntax, 2);
+    }
+}
+
+#[test]
+fn a_list_is_all_numbers_or_all_strings() {
+    for line in [
+        "X = ( 1 'a' )",
+        "X = ( 'a' 1 )",
+        "X = ( 'a' 'b' 1 )",
+        "X = ( 1 2 'a' )",
+        "X = ( 1 '' )",
+    ] {
+        refused(data(line), Syntax, 2);
+    }
+    refused(data("X = ( 1\n2\n'a'\n)"), Syntax, 4);
+    refused(data("X = ( 'a'\n\n1 )"), Syntax, 4);
+    // The second kind is a fault before its value is looked at, the first kind is not.
+    refused(data("X = ( 'a' 1E99 )"), Syntax, 2);
+    refused(data("X = ( 'a'\n1E99 )"), Syntax, 3);
+    refused(data("X = ( 1E99 'a' )"), Number, 2);
+    refused(data("X = ( 1 'a )"), Syntax, 2);
+    refused(data("X = ( 1 2E99 'a"), Number, 2);
+    admitted(
+        data("X = 1\nX += 'a'\nX += 2"),
+        &["X = 1", "X += 'a'", "X += 2"],
+    );
+}
+
+#[test]
+fn quotes_open_nothing_outside_of_values() {
+    admitted("'\n\\begindata\nX = 'a'\n\\begintext\n'''\n", &["X = 'a'"]);
+    refused(data("X = ( 'a'\n\\begintext\n)"), Syntax, 3);
+    refused(data("X = ( 'a'"), Syntax, 2);
+    refused(data("X = ( 'a'\n\n"), Syntax, 3);
+    let longest = format!("X = '{}'{}", "''".repeat(60), " ".repeat(6));
+    admitted(data(&longest), &[longest.trim_end()]);
+    refused(data(&format!("{longest} ")), LineTooLong, 2);
 }

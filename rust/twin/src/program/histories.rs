@@ -12,7 +12,7 @@ use super::history_samples::script;
 use super::stream::{broken, number, Stream};
 
 /// The words of the memory; calls get as many of the first ones as `size` says.
-const MEMORY: usize = 5_700;
+const MEMORY: usize = WORDS + 49;
 
 /// What every word holds at the start.
 const START: u64 = 0xA5A5_A5A5_A5A5_A5A5;
@@ -29,77 +29,79 @@ pub fn write(input: &[u8], out: &mut impl Write) -> io::Result<()> {
     let mut size = WORDS;
     while let Some(line) = stream.line() {
         let (call, rest) = first_field(line);
-        let pool = memory
-            .get_mut(..size)
-            .ok_or_else(|| broken("a size beyond the memory"))?;
-        let changed = match call {
-            b"empty" => {
-                let answer = pool::make_empty(pool);
-                writeln!(out, "empty {}", refusal_number(&answer))?;
-                answer.is_ok()
+        match call {
+            b"size" => size = number(rest)?,
+            b"word" => put_word(&mut memory, rest)?,
+            _ => {
+                let pool = memory
+                    .get_mut(..size)
+                    .ok_or_else(|| broken("a size beyond the memory"))?;
+                if write_answer(call, rest, &mut stream, pool, out)? {
+                    writeln!(out, "memory {:016X}", checksum(&memory))?;
+                }
             }
-            b"load" => {
-                let (label, length) = first_field(rest);
-                let label = number(label)?;
-                let text = stream.bytes(number(length)?)?;
-                let answer = pool::load(pool, label, text);
-                let line = answer.err().map_or(0, |refused| refused.line);
-                writeln!(out, "load {label} {} {line}", refusal_number(&answer))?;
-                answer.is_ok()
-            }
-            b"remove" => {
-                let label = number(rest)?;
-                let answer = pool::remove(pool, label);
-                writeln!(out, "remove {label} {}", refusal_number(&answer))?;
-                answer.is_ok()
-            }
-            b"clear" => {
-                let answer = pool::clear(pool);
-                writeln!(out, "clear {}", refusal_number(&answer))?;
-                answer.is_ok()
-            }
-            b"fetch" => {
-                let (room, name) = first_field(rest);
-                write_fetch(pool, number(room)?, name, out)?;
-                false
-            }
-            b"totals" => {
-                let answer = pool::totals(pool);
-                let totals = answer.unwrap_or_default();
-                writeln!(
-                    out,
-                    "totals {} {} {} {}",
-                    refusal_number(&answer),
-                    totals.texts,
-                    totals.statements,
-                    totals.values
-                )?;
-                false
-            }
-            b"word" => {
-                let (index, word) = first_field(rest);
-                let index: usize = number(index)?;
-                *memory
-                    .get_mut(index)
-                    .ok_or_else(|| broken("a word beyond the memory"))? = hexadecimal(word)?;
-                false
-            }
-            b"size" => {
-                size = number(rest)?;
-                false
-            }
-            _ => return Err(broken("an unknown call")),
-        };
-        if changed {
-            writeln!(out, "memory {:016X}", checksum(&memory))?;
         }
     }
     Ok(())
 }
 
-/// A fetch's answer: name, number, count and the bits of the values.
-fn write_fetch(pool: &[u64], room: usize, name: &[u8], out: &mut impl Write) -> io::Result<()> {
-    let mut buffer = vec![0.0; room];
+/// Puts a word into the memory from outside: its place, then its digits.
+fn put_word(memory: &mut [u64], fields: &[u8]) -> io::Result<()> {
+    let (index, digits) = first_field(fields);
+    let index: usize = number(index)?;
+    let place = memory
+        .get_mut(index)
+        .ok_or_else(|| broken("a word beyond the memory"))?;
+    *place = word(digits)?;
+    Ok(())
+}
+
+/// The answer to one call, and whether the call has changed the pool.
+fn write_answer(
+    call: &[u8],
+    fields: &[u8],
+    stream: &mut Stream,
+    pool: &mut [u64],
+    out: &mut impl Write,
+) -> io::Result<bool> {
+    match call {
+        b"empty" => write_change(out, "empty", pool::make_empty(pool)),
+        b"clear" => write_change(out, "clear", pool::clear(pool)),
+        b"remove" => {
+            let label = number(fields)?;
+            write_change(out, &format!("remove {label}"), pool::remove(pool, label))
+        }
+        b"load" => {
+            let (label, length) = first_field(fields);
+            let label = number(label)?;
+            let text = stream.bytes(number(length)?)?;
+            write_load(out, label, pool::load(pool, label, text))
+        }
+        b"fetch" => write_fetch(pool, fields, out).map(|()| false),
+        b"quoted" => write_quoted(pool, fields, out).map(|()| false),
+        b"totals" => write_totals(pool, out).map(|()| false),
+        _ => Err(broken("an unknown call")),
+    }
+}
+
+/// The answer of a call that may change the pool: what was called, and the number.
+fn write_change(out: &mut impl Write, call: &str, answer: Result<(), Refused>) -> io::Result<bool> {
+    writeln!(out, "{call} {}", refusal_number(&answer))?;
+    Ok(answer.is_ok())
+}
+
+/// A load's answer: label, number and line.
+fn write_load(out: &mut impl Write, label: u32, answer: Result<(), Refused>) -> io::Result<bool> {
+    let line = answer.err().map_or(0, |refused| refused.line);
+    writeln!(out, "load {label} {} {line}", refusal_number(&answer))?;
+    Ok(answer.is_ok())
+}
+
+/// A fetch's answer: name, number, count and the bits of the values. The buffer's length stands
+/// before the name.
+fn write_fetch(pool: &[u64], fields: &[u8], out: &mut impl Write) -> io::Result<()> {
+    let (room, name) = first_field(fields);
+    let mut buffer = vec![0.0; number(room)?];
     let answer = pool::fetch(pool, name, &mut buffer);
     let count = answer.unwrap_or(0);
     out.write_all(b"fetch ")?;
@@ -109,6 +111,42 @@ fn write_fetch(pool: &[u64], room: usize, name: &[u8], out: &mut impl Write) -> 
         write!(out, " {}", bits(*value))?;
     }
     writeln!(out)
+}
+
+/// A fetched string: name, place, number, length and, unless there are none, its bytes. The
+/// buffer's length stands first, then the place, then the name.
+fn write_quoted(pool: &[u64], fields: &[u8], out: &mut impl Write) -> io::Result<()> {
+    let (room, rest) = first_field(fields);
+    let (place, name) = first_field(rest);
+    let place = number(place)?;
+    let mut buffer = vec![0; number(room)?];
+    let answer = pool::fetch_string(pool, name, place, &mut buffer);
+    let length = answer.unwrap_or(0);
+    out.write_all(b"quoted ")?;
+    out.write_all(name)?;
+    write!(out, " {place} {} {length}", refusal_number(&answer))?;
+    if length > 0 {
+        write!(out, " {}", hexadecimal(&buffer[..length]))?;
+    }
+    writeln!(out)
+}
+
+fn write_totals(pool: &[u64], out: &mut impl Write) -> io::Result<()> {
+    let answer = pool::totals(pool);
+    let totals = answer.unwrap_or_default();
+    writeln!(
+        out,
+        "totals {} {} {} {}",
+        refusal_number(&answer),
+        totals.texts,
+        totals.statements,
+        totals.values
+    )
+}
+
+/// Bytes as two digits each.
+fn hexadecimal(bytes: &[u8]) -> String {
+    bytes.iter().map(|byte| format!("{byte:02X}")).collect()
 }
 
 /// What stands before the first space, and what after it.
@@ -127,7 +165,7 @@ fn refusal_number<T>(answer: &Result<T, Refused>) -> u32 {
     }
 }
 
-fn hexadecimal(field: &[u8]) -> io::Result<u64> {
+fn word(field: &[u8]) -> io::Result<u64> {
     std::str::from_utf8(field)
         .ok()
         .and_then(|digits| u64::from_str_radix(digits, 16).ok())

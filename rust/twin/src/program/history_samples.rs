@@ -2,12 +2,14 @@
 //! every damage with its accepted neighbour, removals in every place, and mixtures of all that.
 
 use twin::layout::{
-    pack_name, pair, HEADS_AT, NAMES_AT, NAME_WORDS, STATEMENT_TOTAL, TEXTS_AT, TEXT_TOTAL,
-    VALUES_AT, VALUE_TOTAL, WORDS,
+    pack_name, pair, HEADS_AT, NAMES_AT, NAME_WORDS, STATEMENT_TOTAL, STRINGS_AT, STRING_TOTAL,
+    TEXTS_AT, TEXT_TOTAL, VALUES_AT, VALUE_TOTAL, WORDS,
 };
-use twin::limits::{LINE_BYTES, STATEMENTS, TEXTS, TEXT_BYTES, VALUES};
+use twin::limits::{LINE_BYTES, STATEMENTS, STRING_ROOM, TEXTS, TEXT_BYTES, VALUES};
 
+use super::history_strings;
 use super::random::Random;
+use super::script::{data, Change, Script};
 
 /// How many calls are mixed at the end.
 const MIXTURES: usize = 400;
@@ -34,6 +36,7 @@ pub fn script() -> Vec<u8> {
     value_room(&mut script);
     all_room(&mut script);
     damages(&mut script);
+    history_strings::add(&mut script);
     mixtures(&mut script);
     script.bytes
 }
@@ -41,7 +44,7 @@ pub fn script() -> Vec<u8> {
 /// Memory that is no pool yet, and memory of another size.
 fn start(s: &mut Script) {
     s.ask_all();
-    for size in [0, 1, 3, WORDS - 1, WORDS + 1, WORDS + 49] {
+    for size in [0, 1, 3, 4, WORDS - 1, WORDS + 1, WORDS + 49] {
         s.size(size);
         s.empty();
         s.ask_all();
@@ -215,7 +218,6 @@ fn text_lengths(s: &mut Script) {
     s.load(1, &longest);
     s.fetch(1, "X");
     let longer = format!("{}\n", "?".repeat(TEXT_BYTES));
-    s.load(1, &longer);
     s.load(2, &longer);
     s.totals();
 }
@@ -339,7 +341,7 @@ fn damages(s: &mut Script) {
     s.load(7, &data(&format!("X = ( 1 2 3 )\n{LONG} = 4")));
     s.load(8, "");
     s.load(9, &data("X += 5\nY = ( 6 7 )"));
-    s.read_all();
+    read_all(s);
 
     damaged_totals(s);
     damaged_texts(s, &texts);
@@ -350,11 +352,26 @@ fn damages(s: &mut Script) {
 
     s.remove(8);
     s.remove(7);
-    s.read_all();
+    read_all(s);
     s.word(TEXT_TOTAL, u64::MAX);
     s.ask_all();
     s.empty();
-    s.read_all();
+    read_all(s);
+}
+
+/// Everything that can be read of the pool that damages are tried on.
+fn read_all(s: &mut Script) {
+    s.totals();
+    s.fetch(9, "X");
+    s.fetch(9, LONG);
+    s.fetch(9, "Y");
+}
+
+/// Words that do not damage the pool, and the words as they were.
+fn neighbour(s: &mut Script, changes: &[Change]) {
+    s.write(changes);
+    read_all(s);
+    s.restore(changes);
 }
 
 fn damaged_totals(s: &mut Script) {
@@ -377,17 +394,29 @@ fn damaged_totals(s: &mut Script) {
             s.damage(&[(index, damage, total)]);
         }
     }
+    for damage in [
+        1,
+        STRING_ROOM as u64,
+        STRING_ROOM as u64 + 1,
+        1 << 32,
+        u64::MAX,
+    ] {
+        s.damage(&[(STRING_TOTAL, damage, 0)]);
+    }
     // A text of no statements more or less is no damage, if its label is another one.
     s.word(TEXTS_AT + 3, pair(10, 0));
-    s.neighbour(&[(TEXT_TOTAL, 4, 3)]);
+    neighbour(s, &[(TEXT_TOTAL, 4, 3)]);
     s.word(TEXTS_AT + 3, pair(7, 0));
     s.damage(&[(TEXT_TOTAL, 4, 3)]);
     // Totals of nothing at all are an empty pool.
-    s.neighbour(&[
-        (TEXT_TOTAL, 0, 3),
-        (STATEMENT_TOTAL, 0, 4),
-        (VALUE_TOTAL, 0, HELD_VALUES as u64),
-    ]);
+    neighbour(
+        s,
+        &[
+            (TEXT_TOTAL, 0, 3),
+            (STATEMENT_TOTAL, 0, 4),
+            (VALUE_TOTAL, 0, HELD_VALUES as u64),
+        ],
+    );
 }
 
 fn damaged_texts(s: &mut Script, texts: &[u64; 3]) {
@@ -396,7 +425,7 @@ fn damaged_texts(s: &mut Script, texts: &[u64; 3]) {
         s.damage(&[(second, pair(label, 0), texts[1])]);
     }
     for label in [0, 6, 10, u32::MAX] {
-        s.neighbour(&[(second, pair(label, 0), texts[1])]);
+        neighbour(s, &[(second, pair(label, 0), texts[1])]);
     }
     s.damage(&[(third, pair(7, 2), texts[2])]);
     for count in [1, 3] {
@@ -404,12 +433,18 @@ fn damaged_texts(s: &mut Script, texts: &[u64; 3]) {
         s.damage(&[(third, pair(9, count), texts[2])]);
     }
     s.damage(&[(second, pair(8, 1), texts[1])]);
-    s.neighbour(&[(first, pair(7, 3), texts[0]), (third, pair(9, 1), texts[2])]);
-    s.neighbour(&[
-        (first, pair(7, 0), texts[0]),
-        (second, pair(8, 4), texts[1]),
-        (third, pair(9, 0), texts[2]),
-    ]);
+    neighbour(
+        s,
+        &[(first, pair(7, 3), texts[0]), (third, pair(9, 1), texts[2])],
+    );
+    neighbour(
+        s,
+        &[
+            (first, pair(7, 0), texts[0]),
+            (second, pair(8, 4), texts[1]),
+            (third, pair(9, 0), texts[2]),
+        ],
+    );
     s.damage(&[
         (first, pair(7, u32::MAX), texts[0]),
         (second, pair(8, 3), texts[1]),
@@ -422,12 +457,12 @@ fn damaged_texts(s: &mut Script, texts: &[u64; 3]) {
 
 fn damaged_heads(s: &mut Script, heads: &[u64; 4]) {
     let at = [HEADS_AT, HEADS_AT + 1, HEADS_AT + 2, HEADS_AT + 3];
-    for operator in [2, 3, 1 << 8, 1 << 31, u32::MAX] {
+    for operator in [2, 3, 4, 1 << 8, 1 << 31, u32::MAX] {
         s.damage(&[(at[0], pair(operator, 3), heads[0])]);
         s.damage(&[(at[2], pair(operator, 1), heads[2])]);
     }
-    s.neighbour(&[(at[0], pair(1, 3), heads[0])]);
-    s.neighbour(&[(at[2], pair(0, 1), heads[2])]);
+    neighbour(s, &[(at[0], pair(1, 3), heads[0])]);
+    neighbour(s, &[(at[2], pair(0, 1), heads[2])]);
     for count in [0, 2, 4] {
         s.damage(&[(at[0], pair(0, count), heads[0])]);
     }
@@ -435,8 +470,11 @@ fn damaged_heads(s: &mut Script, heads: &[u64; 4]) {
     s.damage(&[(at[3], pair(0, 3), heads[3])]);
     s.damage(&[(at[0], pair(0, 4), heads[0]), (at[1], 0, heads[1])]);
     s.damage(&[(at[2], pair(1, 0), heads[2]), (at[3], pair(0, 3), heads[3])]);
-    s.neighbour(&[(at[0], pair(0, 1), heads[0]), (at[1], 3, heads[1])]);
-    s.neighbour(&[(at[2], pair(1, 2), heads[2]), (at[3], pair(0, 1), heads[3])]);
+    neighbour(s, &[(at[0], pair(0, 1), heads[0]), (at[1], 3, heads[1])]);
+    neighbour(
+        s,
+        &[(at[2], pair(1, 2), heads[2]), (at[3], pair(0, 1), heads[3])],
+    );
     s.damage(&[
         (at[0], pair(0, u32::MAX), heads[0]),
         (at[1], pair(0, 5), heads[1]),
@@ -457,8 +495,8 @@ fn damaged_names(s: &mut Script) {
         s.damage(&[(at, name[0] | u64::from(byte) << 48, name[0])]);
     }
     for byte in *b"09AZ_az" {
-        s.neighbour(&[(at, u64::from(byte) << 56, name[0])]);
-        s.neighbour(&[(at, name[0] | u64::from(byte) << 48, name[0])]);
+        neighbour(s, &[(at, u64::from(byte) << 56, name[0])]);
+        neighbour(s, &[(at, name[0] | u64::from(byte) << 48, name[0])]);
     }
     s.damage(&[(at, 0, name[0])]);
     s.damage(&[(at, u64::from(b'X') << 48, name[0])]);
@@ -469,14 +507,14 @@ fn damaged_names(s: &mut Script) {
         s.damage(&[(at + place, u64::from(b'X') << 56, 0)]);
     }
     let eight = words("X8_BYTES");
-    s.neighbour(&[(at, eight[0], name[0])]);
-    s.neighbour(&[(at, eight[0], name[0]), (at + 1, name[0], 0)]);
+    neighbour(s, &[(at, eight[0], name[0])]);
+    neighbour(s, &[(at, eight[0], name[0]), (at + 1, name[0], 0)]);
     s.damage(&[(at, eight[0], name[0]), (at + 2, name[0], 0)]);
     let long = words(LONG);
     let last = at + NAME_WORDS + 3;
     s.damage(&[(last, long[3] & !0xff | u64::from(b'.'), long[3])]);
-    s.neighbour(&[(last, long[3] & !0xff, long[3])]);
-    s.neighbour(&[(last, 0, long[3])]);
+    neighbour(s, &[(last, long[3] & !0xff, long[3])]);
+    neighbour(s, &[(last, 0, long[3])]);
     s.damage(&[(last - 1, 0, long[2])]);
 }
 
@@ -505,8 +543,8 @@ fn tried_values(s: &mut Script) {
             s.damage(&[(index, bits | SIGN, value.to_bits())]);
         }
         for bits in accepted {
-            s.neighbour(&[(index, bits, value.to_bits())]);
-            s.neighbour(&[(index, bits | SIGN, value.to_bits())]);
+            neighbour(s, &[(index, bits, value.to_bits())]);
+            neighbour(s, &[(index, bits | SIGN, value.to_bits())]);
         }
     }
 }
@@ -521,6 +559,7 @@ fn unused_words(s: &mut Script) {
         NAMES_AT + 4 * NAME_WORDS,
         VALUES_AT - 1,
         VALUES_AT + HELD_VALUES,
+        STRINGS_AT,
         WORDS - 1,
         WORDS,
     ] {
@@ -529,7 +568,7 @@ fn unused_words(s: &mut Script) {
             s.totals();
         }
     }
-    s.read_all();
+    read_all(s);
 }
 
 /// Calls in no order, over few labels and names.
@@ -547,13 +586,17 @@ fn mixtures(s: &mut Script) {
         data("Y = ( 1 2"),
         statements(100),
         values(600),
+        data("X = 'a'\nY += ( 'the' 'second' '' )"),
+        data("C += ( 'it''s' '''' )\nX += '\t'\nC += 'a caption of some length'"),
+        data("Z = ( 'a' 1 )"),
+        strings(20),
     ];
     let labels = [0, 1, 2, 3, 7, 8, 9, 10, u32::MAX - 1, u32::MAX];
-    let names = ["X", "Y", "Z", "A", "NONE"];
+    let names = ["X", "Y", "Z", "A", "C", "NONE"];
     let mut random = Random(6);
     s.empty();
     for _ in 0..MIXTURES {
-        match random.below(20) {
+        match random.below(24) {
             0..=8 => {
                 let text = &texts[random.below(texts.len())];
                 s.load(random.one(&labels), text);
@@ -563,7 +606,12 @@ fn mixtures(s: &mut Script) {
                 let room = random.one(&[0, 1, 2, 4, 8, 16]);
                 s.fetch(room, random.one(&names));
             }
-            18 => s.totals(),
+            18..=21 => {
+                let room = random.one(&[0, 1, 2, 4, 30, 60]);
+                let place = random.one(&[0, 1, 1, 2, 3, 5]);
+                s.quoted(room, place, random.one(&names));
+            }
+            22 => s.totals(),
             _ => match random.below(6) {
                 0 => s.clear(),
                 1 => s.empty(),
@@ -572,11 +620,6 @@ fn mixtures(s: &mut Script) {
         }
     }
     s.totals();
-}
-
-/// A text of one data section.
-fn data(lines: &str) -> String {
-    format!("\\begindata\n{lines}")
 }
 
 /// A text of so many statements.
@@ -595,99 +638,11 @@ fn values(count: usize) -> String {
     text
 }
 
+/// A text of so many strings of 60 bytes.
+fn strings(count: usize) -> String {
+    data(&format!("C += '{}'\n", "sixty ".repeat(10)).repeat(count))
+}
+
 fn words(name: &str) -> [u64; NAME_WORDS] {
     pack_name(name.as_bytes()).unwrap_or_default()
-}
-
-/// A word's place, what is written there, and what stands there otherwise.
-type Change = (usize, u64, u64);
-
-struct Script {
-    bytes: Vec<u8>,
-}
-
-impl Script {
-    fn line(&mut self, line: &str) {
-        self.bytes.extend_from_slice(line.as_bytes());
-        self.bytes.push(b'\n');
-    }
-
-    fn empty(&mut self) {
-        self.line("empty");
-    }
-
-    fn load(&mut self, label: u32, text: &str) {
-        self.line(&format!("load {label} {}", text.len()));
-        self.line(text);
-    }
-
-    fn remove(&mut self, label: u32) {
-        self.line(&format!("remove {label}"));
-    }
-
-    fn clear(&mut self) {
-        self.line("clear");
-    }
-
-    fn fetch(&mut self, room: usize, name: &str) {
-        self.line(&format!("fetch {room} {name}"));
-    }
-
-    fn totals(&mut self) {
-        self.line("totals");
-    }
-
-    fn word(&mut self, index: usize, word: u64) {
-        self.line(&format!("word {index} {word:016X}"));
-    }
-
-    fn size(&mut self, words: usize) {
-        self.line(&format!("size {words}"));
-    }
-
-    /// Every call that a damaged pool refuses.
-    fn ask_all(&mut self) {
-        self.totals();
-        self.fetch(9, "X");
-        self.fetch(0, "");
-        self.load(7, "?");
-        self.load(3, &data("X = 1"));
-        self.remove(7);
-        self.clear();
-    }
-
-    /// Everything that can be read of the pool that damages are tried on.
-    fn read_all(&mut self) {
-        self.totals();
-        self.fetch(9, "X");
-        self.fetch(9, LONG);
-        self.fetch(9, "Y");
-    }
-
-    /// Words that damage the pool, and the words as they were.
-    fn damage(&mut self, changes: &[Change]) {
-        self.write(changes);
-        self.ask_all();
-        self.restore(changes);
-        self.totals();
-    }
-
-    /// Words that do not damage the pool, and the words as they were.
-    fn neighbour(&mut self, changes: &[Change]) {
-        self.write(changes);
-        self.read_all();
-        self.restore(changes);
-    }
-
-    fn write(&mut self, changes: &[Change]) {
-        for (index, word, _) in changes {
-            self.word(*index, *word);
-        }
-    }
-
-    fn restore(&mut self, changes: &[Change]) {
-        for (index, _, word) in changes {
-            self.word(*index, *word);
-        }
-    }
 }

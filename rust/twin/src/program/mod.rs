@@ -3,9 +3,12 @@
 pub mod bits;
 pub mod histories;
 pub mod history_samples;
+pub mod history_strings;
 pub mod listing;
 pub mod orientations;
 pub mod random;
+pub mod script;
 pub mod stream;
 pub mod text_samples;
+pub mod text_strings;
 pub mod texts;

@@ -1,12 +1,13 @@
-//! The texts that readers are compared on: every rule of document 01's "Text rules" and of K1 of
-//! document 02, their faults and limits on both sides, kernels of the source documents, and
+//! The texts that readers are compared on: every rule of document 01's "Text rules" and of K1 and K2
+//! of document 02, their faults and limits on both sides, kernels of the source documents, and
 //! mixtures of all that.
 
 use twin::limits::TEXT_BYTES;
 
 use super::random::Random;
+use super::text_strings;
 
-const KERNELS: [&[u8]; 7] = [
+const KERNELS: [&[u8]; 8] = [
     include_bytes!("../../../../examples/kernels/planets.tpc"),
     include_bytes!("../../../../examples/kernels/radii.tpc"),
     include_bytes!("../../../../examples/kernels/moon.tpc"),
@@ -14,10 +15,11 @@ const KERNELS: [&[u8]; 7] = [
     include_bytes!("../../../../examples/kernels/triton.tpc"),
     include_bytes!("../../../../examples/kernels/mars-example.tpc"),
     include_bytes!("../../../../examples/kernels/mars-example-short.tpc"),
+    include_bytes!("../../../../examples/kernels/museum.tpc"),
 ];
 
 /// How many mixtures follow the written texts.
-const MIXTURES: usize = 240;
+const MIXTURES: usize = 320;
 
 /// Whole texts: sections, delimiters and line ends.
 const WHOLE: &[&str] = &[
@@ -388,6 +390,7 @@ pub fn samples() -> Vec<Vec<u8>> {
     add_name_lengths(&mut texts);
     add_bytes(&mut texts);
     add_long_texts(&mut texts);
+    text_strings::add(&mut texts);
     texts.extend(KERNELS.iter().map(|kernel| kernel.to_vec()));
     texts.push(with_carriage_returns(KERNELS[0]));
     let mut random = Random(5);
@@ -396,7 +399,7 @@ pub fn samples() -> Vec<Vec<u8>> {
 }
 
 /// A text of one data section.
-fn data(lines: &str) -> Vec<u8> {
+pub fn data(lines: &str) -> Vec<u8> {
     format!("\\begindata\n{lines}").into_bytes()
 }
 
@@ -540,8 +543,8 @@ fn mixture(random: &mut Random) -> Vec<u8> {
     for _ in 0..random.below(3) {
         let place = random.below(text.len());
         match random.below(3) {
-            0 => text[place] = random.one(b" \t,()=+-.0E\r\n\\X\x01\xff"),
-            1 => text.insert(place, random.one(b" \t,()=+-.9d\r\n_\x00\x80")),
+            0 => text[place] = random.one(b" \t,()=+-.0E\r\n\\X'\x01\xff"),
+            1 => text.insert(place, random.one(b" \t,()=+-.9d\r\n_''\x00\x80")),
             _ => {
                 text.remove(place);
             }
@@ -567,12 +570,15 @@ fn add_statement(text: &mut String, random: &mut Random) {
     text.push_str(random.one(&["", "", " ", "\t"]));
     text.push_str(random.one(&["X", "Y_1", "BODY399_PM", "body399_pm", "Z9"]));
     text.push_str(random.one(&[" = ", "=", " += ", "+=", "\t="]));
+    // Mostly all numbers or all strings.
+    let strings = random.below(3) == 0;
     if random.below(3) == 0 {
-        text.push_str(value(random));
+        text.push_str(value(random, strings));
     } else {
         text.push_str(random.one(&["(", "( ", "(\n", "(,"]));
         for _ in 0..1 + random.below(6) {
-            text.push_str(value(random));
+            let other = random.below(40) == 0;
+            text.push_str(value(random, strings != other));
             text.push_str(random.one(&[" ", ", ", ",", "\n", " \n\t", " , "]));
         }
         text.push(')');
@@ -581,7 +587,18 @@ fn add_statement(text: &mut String, random: &mut Random) {
 }
 
 /// A value; one in twenty is none, or outside the class.
-fn value(random: &mut Random) -> &'static str {
+fn value(random: &mut Random, string: bool) -> &'static str {
+    let strings = [
+        "''",
+        "'a'",
+        "'Mars'",
+        "'Herschel''s map'",
+        "''''",
+        "'a\tb'",
+        "'( 1, 2 )'",
+        "'twenty bytes of this, twenty more of it, and the last twenty'",
+    ];
+    let no_strings = ["'", "'a", "'a'b", "'''", "'a'1"];
     let good = [
         "0",
         "-0",
@@ -601,9 +618,10 @@ fn value(random: &mut Random) -> &'static str {
         "350.89198226",
     ];
     let bad = ["1E23", "9007199254740993", "1E", "x", ".", "1.2.3"];
-    if random.below(20) == 0 {
-        random.one(&bad)
-    } else {
-        random.one(&good)
+    match (random.below(20) == 0, string) {
+        (true, true) => random.one(&no_strings),
+        (true, false) => random.one(&bad),
+        (false, true) => random.one(&strings),
+        (false, false) => random.one(&good),
     }
 }
