@@ -1,6 +1,7 @@
 /*
  * orientation: loads a text PCK kernel and prints how a body is oriented and how large it is, by
- * the kernel and by the built-in table.
+ * the kernel and by the built-in table, and the captions that the kernel has for it: the strings of
+ * BODYn_CAPTION.
  *
  *     orientation [KERNEL [BODY [EPOCH]]]
  *
@@ -31,10 +32,11 @@ static const struct {
     [GLOBE_TEXT_TOO_LONG] = {"TEXT TOO LONG", "split the text: one has at most 65,536 bytes"},
     [GLOBE_LINE_TOO_LONG] = {"LINE TOO LONG", "break the line: a data line has at most 132 bytes"},
     [GLOBE_BAD_BYTE] = {"BAD BYTE", "retype the line in plain letters, digits, signs and blanks"},
-    [GLOBE_SYNTAX] = {"SYNTAX", "write NAME = NUMBER or NAME = ( NUMBERS ), or += in place of ="},
+    [GLOBE_SYNTAX] = {"SYNTAX", "write NAME = NUMBER or NAME = ( NUMBERS ), or += in place of =, "
+                                "or strings in single quotes in place of all the numbers"},
     [GLOBE_NUMBER] = {"NUMBER", "shorten the number: it has too many digits or too large a power"},
-    [GLOBE_NO_ROOM] = {"NO ROOM", "remove a text: there is room for 16 texts, 512 statements and "
-                                  "3,072 values"},
+    [GLOBE_NO_ROOM] = {"NO ROOM", "remove a text: there is room for 16 texts, 512 statements, "
+                                  "3,072 values and 8,192 bytes of strings"},
     [GLOBE_NOT_HELD] = {"NOT HELD", "look up the label: no text is held under it"},
     [GLOBE_EPOCH] = {"EPOCH", "give TDB seconds past J2000, at most 157,788,000,000 of them"},
     [GLOBE_UNKNOWN_BODY] = {"UNKNOWN BODY",
@@ -43,9 +45,13 @@ static const struct {
                                         "together, and NUT_PREC terms go with NUT_PREC_ANGLES"},
     [GLOBE_WRONG_COUNT] = {"WRONG COUNT", "count the values: 1 to 3 for pole and meridian, 2 for "
                                           "each angle, 3 for radii"},
-    [GLOBE_NO_VARIABLE] = {"NO VARIABLE", "look up the name: no statement has it"},
-    [GLOBE_SHORT_BUFFER] = {"SHORT BUFFER", "lend a longer buffer: 3,072 values always suffice"},
+    [GLOBE_NO_VARIABLE] = {"NO VARIABLE", "look up the name: no statement has it, or no string the "
+                                          "place"},
+    [GLOBE_SHORT_BUFFER] = {"SHORT BUFFER", "lend a longer buffer: 3,072 values always suffice, or "
+                                            "60 bytes for a string"},
     [GLOBE_DAMAGED_POOL] = {"DAMAGED POOL", "make the pool empty and load its texts again"},
+    [GLOBE_MIXED_KIND] = {"MIXED KIND", "take a string away from the numbers, or a number from the "
+                                        "strings"},
 };
 
 static bool was_refused(uint32_t number, uint32_t line) {
@@ -75,6 +81,25 @@ static bool print_orientation(globe_oriented o) {
 static void print_radii(globe_axes radii) {
     if (!was_refused(radii.number, radii.line)) {
         printf("radii %g, %g and %g km\n", radii.a, radii.b, radii.c);
+    }
+}
+
+/* Prints the captions of a body, one after another, up to the place that is past the end. */
+static void print_captions(uint32_t body) {
+    char name[32];
+    uint8_t caption[GLOBE_STRING];
+    int bytes = snprintf(name, sizeof name, "BODY%" PRIu32 "_CAPTION", body);
+    for (size_t place = 1;; place++) {
+        globe_fetched fetched = globe_fetch_string(pool, GLOBE_POOL_WORDS, (const uint8_t *)name,
+                                                   (size_t)bytes, place, caption, sizeof caption);
+        if (fetched.number == GLOBE_NO_VARIABLE) {
+            return;
+        }
+        printf("caption %zu: ", place);
+        if (was_refused(fetched.number, fetched.line)) {
+            return;
+        }
+        printf("%.*s\n", (int)fetched.count, (const char *)caption);
     }
 }
 
@@ -131,5 +156,6 @@ int main(int argc, char **argv) {
     print_orientation(globe_builtin_orientation(body, epoch));
     printf("by the table: ");
     print_radii(globe_builtin_radii(body));
+    print_captions(body);
     return oriented ? EXIT_SUCCESS : EXIT_FAILURE;
 }

@@ -2,11 +2,12 @@
  * globe.h: where the Sun, the planets and their satellites point, from SPICE text PCK kernels or
  * from a built-in table.
  *
- * The pool. A pool holds up to 16 texts, each under a label, with 512 statements and 3,072 values.
- * It is memory of GLOBE_POOL_WORDS words that the caller lends at each call, made a pool once by
- * globe_make_empty; memory that is all zeros is an empty pool already. The library keeps nothing
- * between calls, asks for no memory, and reads and writes nothing but what is lent to it. So calls
- * on different pools may run at the same time, and so may calls that take the same pool as const.
+ * The pool. A pool holds up to 16 texts, each under a label, with 512 statements and 3,072 values,
+ * numbers and strings together, whose strings have 8,192 bytes. It is memory of GLOBE_POOL_WORDS
+ * words that the caller lends at each call, made a pool once by globe_make_empty; memory that is
+ * all zeros is an empty pool already. The library keeps nothing between calls, asks for no memory,
+ * and reads and writes nothing but what is lent to it. So calls on different pools may run at the
+ * same time, and so may calls that take the same pool as const.
  *
  * Lent memory. Each pointer goes with the number of elements behind it, and must not be NULL unless
  * that number is 0. With 0 it is not looked at, and NULL stands for an empty slice: an empty text,
@@ -43,14 +44,15 @@ extern "C" {
  * The words of a pool, for memory that is laid out at compile time; globe_pool_words tells what the
  * linked library wants.
  */
-#define GLOBE_POOL_WORDS 5651
+#define GLOBE_POOL_WORDS 6676
 
 /*
- * The most bytes of a text, and the most values of a variable: a buffer of so many is never too
- * short.
+ * The most bytes of a text, the most values of a variable, and the most bytes of a string: a buffer
+ * of so many is never too short.
  */
 #define GLOBE_TEXT_BYTES 65536
 #define GLOBE_VALUES 3072
+#define GLOBE_STRING 60
 
 /* The numbers of answers. */
 enum globe_number {
@@ -61,15 +63,17 @@ enum globe_number {
     GLOBE_BAD_BYTE = 4,      /* the data line has a byte that is neither 32 to 126 nor a tab */
     GLOBE_SYNTAX = 5,        /* the data line is no statement, or breaks one */
     GLOBE_NUMBER = 6,        /* too many digits, or a power of ten beyond 22 or -22, also of 0 */
-    GLOBE_NO_ROOM = 7,       /* held and new exceed 16 texts, 512 statements or 3,072 values */
+    GLOBE_NO_ROOM = 7,       /* held and new are over 16 texts, 512 statements, 3,072 values or
+                                8,192 bytes of strings */
     GLOBE_NOT_HELD = 8,      /* the label is not held */
     GLOBE_EPOCH = 9,         /* the epoch is not finite, or over 157,788,000,000 s from J2000 */
     GLOBE_UNKNOWN_BODY = 10, /* no such code, or the source has nothing of what is asked */
     GLOBE_INCOMPLETE = 11,   /* some of the variables that the orientation wants are missing */
     GLOBE_WRONG_COUNT = 12,  /* a variable has too few or too many values for what is asked */
-    GLOBE_NO_VARIABLE = 13,  /* no held statement has that name */
-    GLOBE_SHORT_BUFFER = 14, /* the buffer is shorter than the variable */
-    GLOBE_DAMAGED_POOL = 15  /* the size is wrong, or the words are not those of a pool */
+    GLOBE_NO_VARIABLE = 13,  /* no held statement has that name, or no string has that place */
+    GLOBE_SHORT_BUFFER = 14, /* the buffer is shorter than the variable, or than the string */
+    GLOBE_DAMAGED_POOL = 15, /* the size is wrong, or the words are not those of a pool */
+    GLOBE_MIXED_KIND = 16    /* a string where numbers are asked for, or the other way round */
 };
 
 /* Done, or refused. */
@@ -77,7 +81,7 @@ typedef struct {
     uint32_t number, line;
 } globe_reply;
 
-/* How many values were written to the buffer. */
+/* How many values, or bytes of a string, were written to the buffer. */
 typedef struct {
     uint32_t number, line, count;
 } globe_fetched;
@@ -146,14 +150,26 @@ globe_reply globe_clear(uint64_t *pool, size_t words);
  * of its last direct assignment among the held texts, if there is one, and of all that is appended
  * after it. room is counted in doubles, name_bytes in bytes; the name needs no 0 at its end, and
  * its case counts.
- * Refused: 15 DAMAGED POOL; 13 NO VARIABLE, also for bytes that are no name; 14 SHORT BUFFER.
+ * Refused: 15 DAMAGED POOL; 13 NO VARIABLE, also for bytes that are no name; 16 MIXED KIND, if any
+ * of the values is a string; 14 SHORT BUFFER.
  * The pool and the name are only read; the buffer keeps what stands after the values.
  */
 globe_fetched globe_fetch(const uint64_t *pool, size_t words, const uint8_t *name,
                           size_t name_bytes, double *buffer, size_t room);
 
 /*
- * Tells how many texts, statements and values are held.
+ * Writes the string at a place of a variable, counted from 1, from the buffer's start and tells its
+ * length, which may be 0: the bytes between its quotes, each doubled quote as one, without a 0 at
+ * their end. The variable is as for globe_fetch; room and name_bytes are counted in bytes.
+ * Refused: 15 DAMAGED POOL; 13 NO VARIABLE, also for a place that is 0 or past the variable's end;
+ * 16 MIXED KIND, if any of the values is a number, at whatever place; 14 SHORT BUFFER.
+ * The pool and the name are only read; the buffer keeps what stands after the string.
+ */
+globe_fetched globe_fetch_string(const uint64_t *pool, size_t words, const uint8_t *name,
+                                 size_t name_bytes, size_t place, uint8_t *buffer, size_t room);
+
+/*
+ * Tells how many texts, statements and values are held, strings among the values.
  * Refused: 15 DAMAGED POOL.
  * The pool is only read.
  */
@@ -164,7 +180,8 @@ globe_counts globe_totals(const uint64_t *pool, size_t words);
  * Refused: 15 DAMAGED POOL; 9 EPOCH; 10 UNKNOWN BODY, for a code that has no meaning or a body n of
  * which none of BODYn_POLE_RA, BODYn_POLE_DEC and BODYn_PM is held; 11 INCOMPLETE, if only some of
  * these are held, or one of BODYn_NUT_PREC_RA, _DEC and _PM without BODYs_NUT_PREC_ANGLES (s is the
- * hundreds of n, or n itself up to 10); 12 WRONG COUNT, if one of the first three has over 3
+ * hundreds of n, or n itself up to 10); 16 MIXED KIND, if any of these has a string in it, the
+ * angles only where they are asked for; 12 WRONG COUNT, if one of the first three has over 3
  * values, or the angles are asked for and are odd in number, over 64 or fewer than twice the
  * longest of the terms.
  * The pool is only read.
@@ -181,7 +198,7 @@ globe_oriented globe_builtin_orientation(uint32_t body, double epoch);
 /*
  * The radii of a body, by the variable BODYn_RADII of the pool and by nothing else.
  * Refused: 15 DAMAGED POOL; 10 UNKNOWN BODY, for a code that has no meaning or a variable that is
- * not held; 12 WRONG COUNT, if it has not three values.
+ * not held; 16 MIXED KIND, if it has a string in it; 12 WRONG COUNT, if it has not three values.
  * The pool is only read.
  */
 globe_axes globe_radii(const uint64_t *pool, size_t words, uint32_t body);

@@ -7,9 +7,10 @@
 pub const ARCHIVE: &str = env!("GLOBE_ARCHIVE");
 
 /// The limits of the header.
-pub const GLOBE_POOL_WORDS: usize = 5651;
+pub const GLOBE_POOL_WORDS: usize = 6676;
 pub const GLOBE_TEXT_BYTES: usize = 65536;
 pub const GLOBE_VALUES: usize = 3072;
+pub const GLOBE_STRING: usize = 60;
 
 /// The numbers of answers.
 pub const GLOBE_OK: u32 = 0;
@@ -28,6 +29,7 @@ pub const GLOBE_WRONG_COUNT: u32 = 12;
 pub const GLOBE_NO_VARIABLE: u32 = 13;
 pub const GLOBE_SHORT_BUFFER: u32 = 14;
 pub const GLOBE_DAMAGED_POOL: u32 = 15;
+pub const GLOBE_MIXED_KIND: u32 = 16;
 
 /// Done, or refused.
 #[repr(C)]
@@ -37,7 +39,7 @@ pub struct globe_reply {
     pub line: u32,
 }
 
-/// How many values were written to the buffer.
+/// How many values, or bytes of a string, were written to the buffer.
 #[repr(C)]
 #[derive(Clone, Copy, Debug, PartialEq, Eq)]
 pub struct globe_fetched {
@@ -107,6 +109,15 @@ unsafe extern "C" {
         name: *const u8,
         name_bytes: usize,
         buffer: *mut f64,
+        room: usize,
+    ) -> globe_fetched;
+    pub fn globe_fetch_string(
+        pool: *const u64,
+        words: usize,
+        name: *const u8,
+        name_bytes: usize,
+        place: usize,
+        buffer: *mut u8,
         room: usize,
     ) -> globe_fetched;
     pub fn globe_totals(pool: *const u64, words: usize) -> globe_counts;

@@ -18,8 +18,10 @@ static const char TEXT[] = "note\n"
                            "BODY899_NUT_PREC_RA = 0.70\n"
                            "BODY899_RADII = ( 24764 24764\n"
                            "24341 )\n"
-                           "BODY8_NUT_PREC_ANGLES = ( 357.85 52.316 )\n";
+                           "BODY8_NUT_PREC_ANGLES = ( 357.85 52.316 )\n"
+                           "CAPTION = ( 'Neptune' '' 'Le Verrier''s planet' )\n";
 static const char FAULTY[] = "\\begindata\nX = 1\nX = 1E23\n";
+static const char MIXING[] = "\\begindata\nBODY899_PM += 'a caption'\n";
 static const char NAME[] = "BODY899_RADII";
 
 static void print_doubles(size_t count, const double *values) {
@@ -45,6 +47,16 @@ static void print_fetched(globe_fetched f, const double *buffer, size_t room) {
     print_doubles(room, buffer);
 }
 
+/* Fetches a string and prints the answer and the buffer, all of it. */
+static void print_string(const char *name, size_t place, size_t room) {
+    uint8_t buffer[GLOBE_STRING];
+    memset(buffer, '-', sizeof buffer);
+    globe_fetched f = globe_fetch_string(pool, GLOBE_POOL_WORDS, (const uint8_t *)name,
+                                         strlen(name), place, buffer, room);
+    printf("string %" PRIu32 " %" PRIu32 " %" PRIu32, f.number, f.line, f.count);
+    printf(" %.*s\n", GLOBE_STRING, (const char *)buffer);
+}
+
 static void print_oriented(globe_oriented o) {
     const double values[] = {o.ra,  o.dec, o.w,   o.m11, o.m12, o.m13,
                              o.m21, o.m22, o.m23, o.m31, o.m32, o.m33};
@@ -56,6 +68,30 @@ static void print_axes(globe_axes x) {
     const double values[] = {x.a, x.b, x.c};
     printf("axes %" PRIu32 " %" PRIu32, x.number, x.line);
     print_doubles(3, values);
+}
+
+static void string_calls(void) {
+    const uint8_t *caption = (const uint8_t *)"CAPTION", *mixing = (const uint8_t *)MIXING;
+    double buffer[1] = {-1};
+
+    print_string("CAPTION", 1, GLOBE_STRING);
+    print_string("CAPTION", 2, 0);
+    print_string("CAPTION", 3, 19);
+    print_string("CAPTION", 3, 18);
+    print_string("CAPTION", 0, GLOBE_STRING);
+    print_string("CAPTION", 4, GLOBE_STRING);
+    print_string("CAPTION", SIZE_MAX, GLOBE_STRING);
+    print_string("BODY899_RADII", 3, GLOBE_STRING);
+    print_string("BODY899_RADII", 4, GLOBE_STRING);
+    print_string("", 1, GLOBE_STRING);
+    print_fetched(globe_fetch(pool, GLOBE_POOL_WORDS, caption, 7, buffer, 1), buffer, 1);
+    /* NULL with 0 is an empty slice. */
+    print_fetched(globe_fetch_string(pool, GLOBE_POOL_WORDS, caption, 7, 2, NULL, 0), buffer, 1);
+    print_fetched(globe_fetch_string(pool, GLOBE_POOL_WORDS, NULL, 0, 1, NULL, 0), buffer, 1);
+    print_fetched(globe_fetch_string(NULL, 0, caption, 7, 1, NULL, 0), buffer, 1);
+    print_reply(globe_load(pool, GLOBE_POOL_WORDS, 9, mixing, sizeof MIXING - 1));
+    print_oriented(globe_orientation(pool, GLOBE_POOL_WORDS, 899, 0.0));
+    print_reply(globe_remove(pool, GLOBE_POOL_WORDS, 9));
 }
 
 int main(void) {
@@ -93,6 +129,7 @@ int main(void) {
     print_fetched(globe_fetch(pool, words, NULL, 0, buffer, 4), buffer, 4);
     print_fetched(globe_fetch(pool, words, name, sizeof NAME - 1, NULL, 0), buffer, 4);
     print_counts(globe_totals(pool, words));
+    string_calls();
 
     print_reply(globe_remove(pool, words, 8));
     print_reply(globe_remove(pool, words, 7));

@@ -17,9 +17,12 @@ BODY899_NUT_PREC_RA = 0.70
 BODY899_RADII = ( 24764 24764
 24341 )
 BODY8_NUT_PREC_ANGLES = ( 357.85 52.316 )
+CAPTION = ( 'Neptune' '' 'Le Verrier''s planet' )
 ";
 const FAULTY: &[u8] = b"\\begindata\nX = 1\nX = 1E23\n";
+const MIXING: &[u8] = b"\\begindata\nBODY899_PM += 'a caption'\n";
 const NAME: &[u8] = b"BODY899_RADII";
+const CAPTION: &[u8] = b"CAPTION";
 
 /// The lines that `calls.c` prints.
 #[derive(Default)]
@@ -50,6 +53,24 @@ impl Lines {
         self.add("fetched", &[f.number, f.line, f.count], buffer);
     }
 
+    /// Fetches a string and tells the answer and the buffer, all of it.
+    unsafe fn string(&mut self, pool: *const u64, name: &[u8], place: usize, room: usize) {
+        let words = globe_pool_words();
+        let mut bytes = [b'-'; GLOBE_STRING];
+        let buffer = bytes.as_mut_ptr();
+        // Safety: the pool is one of so many words, and the buffer has at least this room.
+        let f = unsafe {
+            globe_fetch_string(pool, words, name.as_ptr(), name.len(), place, buffer, room)
+        };
+        let buffer = String::from_utf8_lossy(&bytes);
+        writeln!(
+            self.0,
+            "string {} {} {} {buffer}",
+            f.number, f.line, f.count
+        )
+        .unwrap();
+    }
+
     fn oriented(&mut self, o: globe_oriented) {
         let doubles = [
             o.ra, o.dec, o.w, o.m11, o.m12, o.m13, o.m21, o.m22, o.m23, o.m31, o.m32, o.m33,
@@ -59,6 +80,42 @@ impl Lines {
 
     fn axes(&mut self, x: globe_axes) {
         self.add("axes", &[x.number, x.line], &[x.a, x.b, x.c]);
+    }
+}
+
+/// The calls about strings of `calls.c`, in its order.
+///
+/// # Safety
+///
+/// The pool is one of as many words as the library wants.
+unsafe fn string_calls(lines: &mut Lines, pool: *mut u64) {
+    let words = globe_pool_words();
+    let (caption, bytes) = (CAPTION.as_ptr(), CAPTION.len());
+    let mut buffer = [-1.0; 1];
+    // Safety: as above, and no two slices overlap.
+    unsafe {
+        lines.string(pool, CAPTION, 1, GLOBE_STRING);
+        lines.string(pool, CAPTION, 2, 0);
+        lines.string(pool, CAPTION, 3, 19);
+        lines.string(pool, CAPTION, 3, 18);
+        lines.string(pool, CAPTION, 0, GLOBE_STRING);
+        lines.string(pool, CAPTION, 4, GLOBE_STRING);
+        lines.string(pool, CAPTION, usize::MAX, GLOBE_STRING);
+        lines.string(pool, NAME, 3, GLOBE_STRING);
+        lines.string(pool, NAME, 4, GLOBE_STRING);
+        lines.string(pool, b"", 1, GLOBE_STRING);
+        let fetched = globe_fetch(pool, words, caption, bytes, buffer.as_mut_ptr(), 1);
+        lines.fetched(fetched, &buffer);
+        for fetched in [
+            globe_fetch_string(pool, words, caption, bytes, 2, null_mut(), 0),
+            globe_fetch_string(pool, words, null(), 0, 1, null_mut(), 0),
+            globe_fetch_string(null(), 0, caption, bytes, 1, null_mut(), 0),
+        ] {
+            lines.fetched(fetched, &buffer);
+        }
+        lines.reply(globe_load(pool, words, 9, MIXING.as_ptr(), MIXING.len()));
+        lines.oriented(globe_orientation(pool, words, 899, 0.0));
+        lines.reply(globe_remove(pool, words, 9));
     }
 }
 
@@ -104,6 +161,7 @@ fn calls() -> String {
             &buffer,
         );
         lines.counts(globe_totals(pool, words));
+        string_calls(&mut lines, pool);
 
         lines.reply(globe_remove(pool, words, 8));
         lines.reply(globe_remove(pool, words, 7));
@@ -128,11 +186,14 @@ fn numbers_of_the_answers() {
     let numbers: Vec<&str> = lines
         .lines()
         .filter_map(|line| line.split(' ').nth(1))
-        .take(31)
+        .take(48)
         .collect();
     let expected = [
         "15", "15", "0", "0", "1", "6", "0", "14", "0", "13", "0", "0", "9", "10", "0", "10", "0",
-        "10", "0", "10", "15", "15", "0", "13", "14", "0", "8", "0", "0", "0", "0",
+        "10", "0", "10", "15", "15", "0", "13", "14", "0", // strings
+        "0", "0", "0", "14", "13", "13", "13", "16", "13", "13", "16", "0", "13", "15", "0", "16",
+        "0", // removals
+        "8", "0", "0", "0", "0",
     ];
     assert_eq!(numbers, expected);
 }

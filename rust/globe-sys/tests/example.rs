@@ -17,6 +17,19 @@ fn the_example_prints_what_is_kept() {
     assert!(!refused.status.success());
     assert!(common::written(&refused).contains("refused 6 (NUMBER) at line 485: "));
 
+    let museum = common::run(&program, &["examples/kernels/museum.tpc"]);
+    assert!(museum.status.success());
+    let captions = [
+        "caption 1: Mars\n",
+        "caption 2: \n",
+        "caption 5: Schiaparelli's \"canali\" turned out to be an illusion.\n",
+        "caption 7: Lent by the Observatory's Friends (until 30 May).\n",
+    ];
+    for caption in captions {
+        assert!(common::written(&museum).contains(caption), "{caption}");
+    }
+    assert!(!common::written(&museum).contains("caption 8"));
+
     let unreadable = common::run(&program, &["examples/kernels/nowhere.tpc"]);
     assert!(!unreadable.status.success());
     assert!(String::from_utf8_lossy(&unreadable.stderr).contains("nowhere.tpc"));

@@ -20,6 +20,6 @@ pub struct Totals {
     pub texts: usize,
     /// The statements of all texts.
     pub statements: usize,
-    /// The values of all statements.
+    /// The values of all statements, numbers and strings.
     pub values: usize,
 }

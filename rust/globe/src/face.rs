@@ -56,6 +56,29 @@ pub fn fetch(pool: &[u64], name: &[u8], buffer: &mut [f64]) -> Result<usize, Ref
     Ok(fetched.count as usize)
 }
 
+pub fn fetch_string(
+    pool: &[u64],
+    name: &[u8],
+    place: usize,
+    buffer: &mut [u8],
+) -> Result<usize, Refused> {
+    let (words, room) = (pool.len(), buffer.len());
+    // Safety: see above.
+    let fetched = unsafe {
+        sys::globe_fetch_string(
+            pool.as_ptr(),
+            words,
+            name.as_ptr(),
+            name.len(),
+            place,
+            buffer.as_mut_ptr(),
+            room,
+        )
+    };
+    accepted(fetched.number, fetched.line)?;
+    Ok(fetched.count as usize)
+}
+
 pub fn totals(pool: &[u64]) -> Result<Totals, Refused> {
     // Safety: see above.
     let counts = unsafe { sys::globe_totals(pool.as_ptr(), pool.len()) };

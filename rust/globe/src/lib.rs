@@ -18,6 +18,16 @@
 //! # Ok::<(), globe::Refused>(())
 //! ```
 //!
+//! Captions are strings, fetched by their place:
+//!
+//! ```
+//! let mut pool = globe::Pool::new();
+//! pool.load(1, "\\begindata\nBODY499_CAPTION = ( 'Mars', 'Herschel''s map' )")?;
+//! let mut buffer = [0; 60];
+//! assert_eq!(pool.fetch_string("BODY499_CAPTION", 2, &mut buffer)?, b"Herschel's map");
+//! # Ok::<(), globe::Refused>(())
+//! ```
+//!
 //! A text that is refused says which line is faulty, and what to do:
 //!
 //! ```

@@ -8,7 +8,8 @@ use crate::face;
 use crate::refusal::Refused;
 
 /// Texts, each under a label, and what they say together. A pool holds up to 16 texts with 512
-/// statements and 3,072 values. A refused call changes nothing.
+/// statements and 3,072 values, numbers or strings, whose strings have up to 8,192 bytes. A refused
+/// call changes nothing.
 ///
 /// Every call asks first whether the pool is damaged ([`Refusal::DamagedPool`]); that happens only
 /// to memory that comes in by [`Pool::from_words`].
@@ -58,7 +59,7 @@ impl Pool {
     /// The memory, for keeping it elsewhere.
     ///
     /// ```
-    /// assert_eq!(size_of_val(globe::Pool::new().words()), 45_208);
+    /// assert_eq!(size_of_val(globe::Pool::new().words()), 53_408);
     /// ```
     pub fn words(&self) -> &[u64] {
         &self.words
@@ -142,7 +143,8 @@ impl Pool {
     /// appended after it.
     ///
     /// Refused, in this order: [`DamagedPool`](crate::Refusal::DamagedPool),
-    /// [`NoVariable`](crate::Refusal::NoVariable), [`ShortBuffer`](crate::Refusal::ShortBuffer).
+    /// [`NoVariable`](crate::Refusal::NoVariable), [`MixedKind`](crate::Refusal::MixedKind) if any
+    /// of the values is a string, [`ShortBuffer`](crate::Refusal::ShortBuffer).
     ///
     /// ```
     /// use globe::{Pool, Refusal};
@@ -165,7 +167,40 @@ impl Pool {
         Ok(&buffer[..count])
     }
 
-    /// How many texts, statements and values are held.
+    /// Writes the string at a place of a variable, counted from 1, from the buffer's start and
+    /// gives the part that was written. A buffer of 60 bytes is always long enough. The bytes are
+    /// those between the string's quotes, each doubled quote as one: 32 to 126 and tabs.
+    ///
+    /// Refused, in this order: [`DamagedPool`](crate::Refusal::DamagedPool),
+    /// [`NoVariable`](crate::Refusal::NoVariable), also for place 0 and past the variable's end,
+    /// [`MixedKind`](crate::Refusal::MixedKind) if any of the values is a number,
+    /// [`ShortBuffer`](crate::Refusal::ShortBuffer).
+    ///
+    /// ```
+    /// use globe::{Pool, Refusal};
+    /// let mut pool = Pool::new();
+    /// pool.load(1, "\\begindata\nCAPTION = ( 'Mars' 'Herschel''s map' )\nX = 1")?;
+    /// let mut buffer = [0; 60];
+    /// assert_eq!(pool.fetch_string("CAPTION", 2, &mut buffer)?, b"Herschel's map");
+    /// let refused = pool.fetch_string("CAPTION", 3, &mut buffer).unwrap_err();
+    /// assert_eq!(refused.refusal, Refusal::NoVariable);
+    /// let refused = pool.fetch_string("X", 1, &mut buffer).unwrap_err();
+    /// assert_eq!(refused.refusal, Refusal::MixedKind);
+    /// let refused = pool.fetch_string("CAPTION", 1, &mut buffer[..3]).unwrap_err();
+    /// assert_eq!(refused.refusal, Refusal::ShortBuffer);
+    /// # Ok::<(), globe::Refused>(())
+    /// ```
+    pub fn fetch_string<'b>(
+        &self,
+        name: impl AsRef<[u8]>,
+        place: usize,
+        buffer: &'b mut [u8],
+    ) -> Result<&'b [u8], Refused> {
+        let count = face::fetch_string(&self.words, name.as_ref(), place, buffer)?;
+        Ok(&buffer[..count])
+    }
+
+    /// How many texts, statements and values are held, strings among the values.
     ///
     /// Refused: [`DamagedPool`](crate::Refusal::DamagedPool).
     ///
@@ -185,7 +220,8 @@ impl Pool {
     ///
     /// Refused, in this order: [`DamagedPool`](crate::Refusal::DamagedPool),
     /// [`Epoch`](crate::Refusal::Epoch), [`UnknownBody`](crate::Refusal::UnknownBody),
-    /// [`Incomplete`](crate::Refusal::Incomplete), [`WrongCount`](crate::Refusal::WrongCount).
+    /// [`Incomplete`](crate::Refusal::Incomplete), [`MixedKind`](crate::Refusal::MixedKind),
+    /// [`WrongCount`](crate::Refusal::WrongCount).
     ///
     /// ```
     /// use globe::{Pool, Refusal};
@@ -204,7 +240,8 @@ impl Pool {
     /// The radii of a body by the held texts and nothing else, in the order of its variable.
     ///
     /// Refused, in this order: [`DamagedPool`](crate::Refusal::DamagedPool),
-    /// [`UnknownBody`](crate::Refusal::UnknownBody), [`WrongCount`](crate::Refusal::WrongCount).
+    /// [`UnknownBody`](crate::Refusal::UnknownBody), [`MixedKind`](crate::Refusal::MixedKind),
+    /// [`WrongCount`](crate::Refusal::WrongCount).
     ///
     /// ```
     /// let mut pool = globe::Pool::new();

@@ -39,17 +39,19 @@ pub enum Refusal {
     Incomplete,
     /// 12: a variable has too few or too many values.
     WrongCount,
-    /// 13: no held statement has the name.
+    /// 13: no held statement has the name, or its variable has no such place.
     NoVariable,
-    /// 14: the buffer is shorter than the variable.
+    /// 14: the buffer is shorter than the variable, or than the string.
     ShortBuffer,
     /// 15: the memory is no pool, or no longer one.
     DamagedPool,
+    /// 16: a variable has a string where numbers are asked for, or a number where a string is.
+    MixedKind,
 }
 
 impl Refusal {
     /// All refusals, in the order of their numbers.
-    pub const ALL: [Refusal; 15] = [
+    pub const ALL: [Refusal; 16] = [
         Refusal::LabelHeld,
         Refusal::TextTooLong,
         Refusal::LineTooLong,
@@ -65,6 +67,7 @@ impl Refusal {
         Refusal::NoVariable,
         Refusal::ShortBuffer,
         Refusal::DamagedPool,
+        Refusal::MixedKind,
     ];
 
     /// The number that the library gives for it.
@@ -85,6 +88,7 @@ impl Refusal {
             Refusal::NoVariable => sys::GLOBE_NO_VARIABLE,
             Refusal::ShortBuffer => sys::GLOBE_SHORT_BUFFER,
             Refusal::DamagedPool => sys::GLOBE_DAMAGED_POOL,
+            Refusal::MixedKind => sys::GLOBE_MIXED_KIND,
         }
     }
 
@@ -106,6 +110,7 @@ impl Refusal {
             Refusal::NoVariable => "NO VARIABLE",
             Refusal::ShortBuffer => "SHORT BUFFER",
             Refusal::DamagedPool => "DAMAGED POOL",
+            Refusal::MixedKind => "MIXED KIND",
         }
     }
 
@@ -132,7 +137,9 @@ impl Refusal {
                 "the line is in a data section and is no statement, or breaks one; write \
                  NAME = NUMBER or NAME = ( NUMBER NUMBER .. ), += in place of = to append, one \
                  statement a line, a name of at most 32 letters, digits and underscores, and \
-                 close each list by a )"
+                 close each list by a ); a string stands in single quotes, a quote inside it \
+                 twice, has at most 60 bytes and ends on its line, and a list is all numbers or \
+                 all strings"
             }
             Refusal::Number => {
                 "the line has a number that cannot be read exactly; its digits without the point \
@@ -140,8 +147,9 @@ impl Refusal {
                  is from -22 to 22, for a zero too: shorten it to 15 digits, or move its point"
             }
             Refusal::NoRoom => {
-                "the pool has no room for the text: it holds 16 texts, 512 statements and 3,072 \
-                 values in all; remove a text that is not needed, or shorten this one"
+                "the pool has no room for the text: it holds 16 texts, 512 statements, 3,072 \
+                 values and 8,192 bytes of strings in all; remove a text that is not needed, or \
+                 shorten this one"
             }
             Refusal::NotHeld => {
                 "no text is held under this label; it was never loaded, its load was refused, or \
@@ -168,16 +176,22 @@ impl Refusal {
                  BODYn_NUT_PREC variable has values"
             }
             Refusal::NoVariable => {
-                "no held text has a variable of this name; capitals count, and a text that was \
-                 refused or removed counts no more"
+                "no held text has a variable of this name, or the variable has no string at this \
+                 place; capitals count, a text that was refused or removed counts no more, and \
+                 places are counted from 1"
             }
             Refusal::ShortBuffer => {
-                "the buffer is shorter than the variable; lend one of 3,072 values, which is \
-                 always enough"
+                "the buffer is shorter than the variable, or than the string; lend one of 3,072 \
+                 values, or of 60 bytes for a string, which is always enough"
             }
             Refusal::DamagedPool => {
                 "the memory is not that of a pool: it has another size, or its words were \
                  overwritten; make it empty and load its texts again"
+            }
+            Refusal::MixedKind => {
+                "a variable has a string in it where numbers are asked for, or a number where a \
+                 string is; take the quotes off a number, give a caption a name of its own, or \
+                 write = in place of += where it should replace what stood before"
             }
         }
     }

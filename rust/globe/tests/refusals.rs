@@ -39,6 +39,33 @@ fn of_loads() {
 }
 
 #[test]
+fn of_loads_with_strings() {
+    let mut pool = Pool::new();
+    let caption = |bytes| format!("X += '{}'\n", "c".repeat(bytes));
+    let too_long = caption(61);
+    for (lines, line) in [
+        ("X = 'a", 2),
+        ("X = 'a''", 2),
+        ("X = 'a'b", 2),
+        ("X = 'a' 'b'", 2),
+        ("X = ( 1\n'a' )", 3),
+        ("X = ( 'a'\n\n1E99 )", 4),
+        (too_long.as_str(), 2),
+    ] {
+        let text = format!("\\begindata\n{lines}");
+        assert_eq!(refused(&mut pool, 1, &text), at(Refusal::Syntax, line));
+    }
+    // 136 strings of 60 bytes and one of 32 are 8,192.
+    let most = format!("\\begindata\n{}", caption(60).repeat(136));
+    let over = format!("{most}{}", caption(33));
+    assert_eq!(refused(&mut pool, 1, &over), at(Refusal::NoRoom, 0));
+    pool.load(1, format!("{most}{}", caption(32))).unwrap();
+    let one = "\\begindata\nY = 'c'";
+    assert_eq!(refused(&mut pool, 2, one), at(Refusal::NoRoom, 0));
+    pool.load(2, "\\begindata\nY = ''").unwrap();
+}
+
+#[test]
 fn of_removals_and_fetches() {
     let mut pool = Pool::new();
     pool.load(1, "\\begindata\nX = ( 1 2 )").unwrap();
@@ -51,6 +78,36 @@ fn of_removals_and_fetches() {
     let fetched = pool.fetch(b"X", &mut buffer).unwrap_err();
     assert_eq!(fetched, at(Refusal::ShortBuffer, 0));
     assert_eq!(buffer, [7.0]);
+}
+
+#[test]
+fn of_fetches_of_strings() {
+    let mut pool = Pool::new();
+    let text = "\\begindata\nX = ( 'ab' '' )\nY = ( 1 2 )\nZ = 'a'\nZ += 1";
+    pool.load(1, text).unwrap();
+    let mut buffer = *b"-----";
+    for (name, place, room, refusal) in [
+        ("W", 1, 5, Refusal::NoVariable),
+        ("X", 0, 5, Refusal::NoVariable),
+        ("X", 3, 0, Refusal::NoVariable),
+        ("X", usize::MAX, 5, Refusal::NoVariable),
+        ("Y", 3, 5, Refusal::NoVariable),
+        ("Y", 1, 0, Refusal::MixedKind),
+        ("Z", 1, 0, Refusal::MixedKind),
+        ("Z", 2, 5, Refusal::MixedKind),
+        ("X", 1, 1, Refusal::ShortBuffer),
+    ] {
+        let fetched = pool.fetch_string(name, place, &mut buffer[..room]);
+        assert_eq!(fetched, Err(at(refusal, 0)), "{name} {place} {room}");
+    }
+    assert_eq!(&buffer, b"-----");
+    assert_eq!(pool.fetch_string("X", 2, &mut []), Ok(&b""[..]));
+    assert_eq!(pool.fetch_string("X", 1, &mut buffer), Ok(&b"ab"[..]));
+    assert_eq!(&buffer, b"ab---");
+    for name in ["X", "Z"] {
+        let fetched = pool.fetch(name, &mut []).unwrap_err();
+        assert_eq!(fetched, at(Refusal::MixedKind, 0));
+    }
 }
 
 #[test]
@@ -67,6 +124,10 @@ fn of_orientations_and_radii() {
     assert_eq!(pool.radii(1), Err(at(Refusal::UnknownBody, 0)));
     pool.load(3, "\\begindata\nBODY1_RADII = 1").unwrap();
     assert_eq!(pool.radii(1), Err(at(Refusal::WrongCount, 0)));
+    pool.load(4, "\\begindata\nBODY1_RADII = 'a'\nBODY1_POLE_RA += 'a'")
+        .unwrap();
+    assert_eq!(pool.radii(1), Err(at(Refusal::MixedKind, 0)));
+    assert_eq!(orientation(&pool, 0.0), at(Refusal::MixedKind, 0));
     let negative = builtin_orientation(-31_i32 as u32, 0.0);
     assert_eq!(negative, Err(at(Refusal::UnknownBody, 0)));
 }
@@ -81,6 +142,7 @@ fn of_every_call_on_a_damaged_pool() {
     assert_eq!(pool.remove(1), Err(damaged));
     assert_eq!(pool.clear(), Err(damaged));
     assert_eq!(pool.fetch("X", &mut []), Err(damaged));
+    assert_eq!(pool.fetch_string("X", 0, &mut []), Err(damaged));
     assert_eq!(pool.totals(), Err(damaged));
     assert_eq!(pool.orientation(1, f64::NAN), Err(damaged));
     assert_eq!(pool.radii(11), Err(damaged));
