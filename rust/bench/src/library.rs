@@ -22,6 +22,13 @@ pub fn fetch(pool: &[u64], name: &[u8], buffer: &mut [f64]) -> u32 {
     unsafe { sys::globe_fetch(pool.as_ptr(), words, name, length, buffer, room) }.count
 }
 
+pub fn fetch_string(pool: &[u64], name: &[u8], place: usize, buffer: &mut [u8]) -> u32 {
+    let (words, length, room) = (pool.len(), name.len(), buffer.len());
+    let (name, buffer) = (name.as_ptr(), buffer.as_mut_ptr());
+    unsafe { sys::globe_fetch_string(pool.as_ptr(), words, name, length, place, buffer, room) }
+        .count
+}
+
 pub fn totals(pool: &[u64]) -> u32 {
     unsafe { sys::globe_totals(pool.as_ptr(), pool.len()) }.values
 }

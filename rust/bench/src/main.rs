@@ -5,6 +5,7 @@ mod facts;
 mod library;
 mod probes;
 mod stack;
+mod strings;
 mod table;
 mod texts;
 mod timing;

@@ -1,10 +1,11 @@
 //! The deepest stack of each call, over pools and arguments that take it through all it does.
 
 use globe_sys as sys;
-use twin::limits::VALUES;
+use twin::limits::{STRING_BYTES, VALUES};
 
 use crate::stack::{depth, Call};
-use crate::texts::{body, kernel, system};
+use crate::strings::full_pool;
+use crate::texts::{body, captions, kernel, system};
 use crate::work::pool_of;
 
 /// The epoch of every call; those that take none do not look at its register.
@@ -31,6 +32,8 @@ struct Lent {
     texts: Vec<String>,
     name: &'static [u8],
     buffer: Vec<f64>,
+    caption: &'static [u8],
+    bytes: Vec<u8>,
 }
 
 /// Each call with the bytes of its deepest stack.
@@ -39,14 +42,23 @@ pub fn stacks() -> Vec<(&'static str, usize)> {
         texts: vec![
             kernel(),
             system(15),
+            captions(0..15),
             String::from("\\begindata\nX = ( 1 2 1E99"),
         ],
         name: b"BODY100_NUT_PREC_RA",
         buffer: vec![0.0; VALUES],
+        caption: b"GLOBE14_CAPTION",
+        bytes: vec![0; STRING_BYTES],
     };
-    let mut pools = vec![pool_of(0), pool_of(6), pool_of(16), pool_of(16)];
+    let mut pools = vec![
+        pool_of(0),
+        pool_of(6),
+        pool_of(16),
+        full_pool(),
+        pool_of(16),
+    ];
     // The last one is damaged: its values are one fewer than its statements say.
-    pools[3][2] -= 1;
+    pools[4][2] -= 1;
     probes(&mut lent)
         .iter()
         .map(|probe| (probe.name, probe.deepest(&pools)))
@@ -63,6 +75,12 @@ fn probes(lent: &mut Lent) -> Vec<Probe> {
         .collect();
     let (name, buffer) = (lent.name.as_ptr(), lent.buffer.as_mut_ptr());
     let fetch = vec![name as usize, lent.name.len(), buffer as usize, VALUES];
+    let (name, bytes) = (lent.caption.as_ptr(), lent.bytes.as_mut_ptr());
+    let string = |place: usize| {
+        let length = lent.caption.len();
+        vec![name as usize, length, place, bytes as usize, STRING_BYTES]
+    };
+    let strings = [1, 10, 11].map(string).to_vec();
     let nothing = vec![vec![]];
     vec![
         replying("make empty", sys::globe_make_empty as _, nothing.clone()),
@@ -74,6 +92,7 @@ fn probes(lent: &mut Lent) -> Vec<Probe> {
         ),
         replying("clear", sys::globe_clear as _, nothing.clone()),
         replying("fetch", sys::globe_fetch as _, vec![fetch]),
+        replying("fetch string", sys::globe_fetch_string as _, strings),
         telling("totals", sys::globe_totals as _, nothing),
         telling("orientation", sys::globe_orientation as _, bodies.to_vec()),
         telling("radii", sys::globe_radii as _, bodies.to_vec()),
@@ -133,7 +152,7 @@ impl Probe {
                 integers.extend([pool.as_mut_ptr() as usize, pool.len()]);
             }
             integers.extend_from_slice(rest);
-            integers.resize(6, 0);
+            integers.resize(7, 0);
             Call {
                 function: self.function,
                 integers: integers.try_into().unwrap_or_default(),

@@ -10,11 +10,11 @@ const WORDS: usize = 1 << 16;
 /// Two paints, so that a word that is written with one of them is seen by the other.
 const PAINTS: [u64; 2] = [0xA5A5_A5A5_A5A5_A5A5, 0x5A5A_5A5A_5A5A_5A5A];
 
-/// A function of the C face with its arguments as they are passed in registers. An answer too
-/// large for registers has its place as the first of the integers.
+/// A function of the C face with its arguments as they are passed, six in registers and one on the
+/// stack. An answer too large for registers has its place as the first of the integers.
 pub struct Call {
     pub function: *const (),
-    pub integers: [usize; 6],
+    pub integers: [usize; 7],
     pub double: f64,
 }
 
@@ -34,10 +34,11 @@ pub unsafe fn depth(mut prepared: impl FnMut() -> Call) -> usize {
 /// The bytes of stack between the pointer at the call and the lowest word that lost its paint.
 unsafe fn painted(call: Call, paint: u64) -> usize {
     let mut stack = vec![paint; WORDS];
-    let [a, b, c, d, e, f] = call.integers;
-    // The stack pointer is a multiple of 16 at a call.
+    let [a, b, c, d, e, f, last] = call.integers;
+    // The stack pointer is a multiple of 16 at a call, and the last argument stands there.
     let words = stack.as_ptr_range().end as usize % 16 / 8;
-    let top = stack.len() - words;
+    let top = stack.len() - words - 2;
+    stack[top] = last as u64;
     // Safety: as above. The registers that keep the old stack pointer and the function are the
     // callee's to preserve, and a call may change all others.
     unsafe {

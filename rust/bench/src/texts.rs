@@ -55,6 +55,25 @@ pub fn kernel() -> String {
     text
 }
 
+/// The captions of a globe.
+pub const CAPTIONS: usize = 10;
+
+/// A text of captions for some globes, a statement each: six strings of 60 bytes, three of 57 and
+/// one of 15.
+pub fn captions(globes: std::ops::Range<u32>) -> String {
+    const LINE: &str = "The dark spot is Syrtis Major, seen by Huygens in 1659, here";
+    let mut text = String::from("KPL/PCK\n\nCaptions of globes.\n\n\\begindata\n\n");
+    for globe in globes {
+        write!(text, "GLOBE{globe}_CAPTION = (").expect("a string grows");
+        for length in [60, 60, 60, 60, 60, 60, 57, 57, 57, 15] {
+            write!(text, "\n    '{}'", &LINE[..length]).expect("a string grows");
+        }
+        text.push_str(" )\n");
+    }
+    text.push_str("\n\\begintext\n");
+    text
+}
+
 fn add_body(text: &mut String, body: u32) {
     for (word, count) in [
         ("POLE_RA", 3),

@@ -12,7 +12,7 @@ const SAMPLE_NS: f64 = 2e5;
 #[derive(Clone, Copy)]
 pub enum Restore {
     Nothing,
-    /// Words 0 to 2; what a load wrote beyond them is out of use then.
+    /// Words 0 to 3; what a load wrote beyond them is out of use then.
     Totals,
     All,
 }
@@ -50,7 +50,7 @@ impl<'a> Side<'a> {
                 }
                 start.elapsed().as_nanos() as f64 / calls as f64
             }
-            Restore::Totals => self.sample_restored(calls, 3),
+            Restore::Totals => self.sample_restored(calls, 4),
             Restore::All => self.sample_restored(calls, self.start.len()),
         }
     }

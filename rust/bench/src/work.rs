@@ -1,5 +1,6 @@
-//! What is measured: each call, on pools that hold 1, 6 and 16 texts. Questions are about the text
-//! that was loaded first, and removals take that one out, so that all others stand after it.
+//! What is measured: each call, on pools that hold 1, 6 and 16 texts, and then on a pool full of
+//! strings. Questions are about the text that was loaded first, and removals take that one out, so
+//! that all others stand after it.
 
 use std::hint::black_box;
 
@@ -7,11 +8,12 @@ use twin::layout::WORDS;
 use twin::{answers, builtin, pool};
 
 use crate::library;
+use crate::strings;
 use crate::texts::{body, kernel, system};
 use crate::timing::{medians, Restore, Side};
 
 /// The most that a call may take, in times of the twin.
-const LOAD_GOAL: f64 = 2.0;
+pub const LOAD_GOAL: f64 = 2.0;
 const ORIENTATION_GOAL: f64 = 1.5;
 const OTHER_GOAL: f64 = 3.0;
 
@@ -19,7 +21,7 @@ const OTHER_GOAL: f64 = 3.0;
 const HELD: [u32; 3] = [1, 6, 16];
 
 /// What is asked for.
-const EPOCH: f64 = 123_456_789.125;
+pub const EPOCH: f64 = 123_456_789.125;
 const NAME: &[u8] = b"BODY100_NUT_PREC_RA";
 
 /// One call, measured.
@@ -36,16 +38,16 @@ pub struct Row {
 }
 
 /// A call on both sides.
-struct Work<'a> {
-    call: &'static str,
-    goal: f64,
-    restore: Restore,
-    library: &'a mut dyn FnMut(&mut [u64]),
-    twin: &'a mut dyn FnMut(&mut [u64]),
+pub struct Work<'a> {
+    pub call: &'static str,
+    pub goal: f64,
+    pub restore: Restore,
+    pub library: &'a mut dyn FnMut(&mut [u64]),
+    pub twin: &'a mut dyn FnMut(&mut [u64]),
 }
 
 impl Work<'_> {
-    fn on(self, start: &[u64], texts: Option<u32>, bytes: Option<usize>) -> Row {
+    pub fn on(self, start: &[u64], texts: Option<u32>, bytes: Option<usize>) -> Row {
         let (library, twin) = medians(
             Side::new(start, self.restore, self.library),
             Side::new(start, self.restore, self.twin),
@@ -70,6 +72,7 @@ pub fn measured() -> Vec<Row> {
     }
     rows.push(oriented_by_table());
     rows.push(sized_by_table());
+    rows.extend(strings::measured());
     rows
 }
 

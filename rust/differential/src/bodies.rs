@@ -2,6 +2,7 @@
 
 use crate::decimals::inside;
 use crate::random::Random;
+use crate::strings::{quoted, string};
 
 /// Codes around every end of what is legal, ones of the built-in table, and a few others.
 const CODES: [u32; 26] = [
@@ -19,7 +20,7 @@ const STRAY: [u32; 4] = [0, 11, 99, 1000];
 pub const TABLE: [u32; 10] = [10, 199, 299, 399, 499, 599, 699, 799, 899, 999];
 
 /// The words of a body's variables.
-const WORDS: [&str; 8] = [
+const WORDS: [&str; 10] = [
     "POLE_RA",
     "POLE_DEC",
     "PM",
@@ -28,6 +29,8 @@ const WORDS: [&str; 8] = [
     "NUT_PREC_PM",
     "NUT_PREC_ANGLES",
     "RADII",
+    "CAPTION",
+    "CAPTION",
 ];
 
 /// A code of any kind.
@@ -96,12 +99,31 @@ pub fn text(random: &mut Random) -> Vec<u8> {
     }
     let count = random.one(&[0, 3, 3, 3, 3, 3, 2, 4]);
     add(&mut text, random, body, "RADII", count);
+    if random.once_in(3) {
+        let count = random.between(1, 5);
+        add_strings(&mut text, random, body, "CAPTION", count);
+    }
     text.into_bytes()
 }
 
-/// A statement of so many values, or none at all.
+/// A statement of so many strings.
+fn add_strings(text: &mut String, random: &mut Random, code: u32, word: &str, count: usize) {
+    let operator = random.one(&["=", "+="]);
+    text.push_str(&format!("BODY{code}_{word} {operator} (\n"));
+    for _ in 0..count {
+        text.push_str(&quoted(&string(random)));
+        text.push('\n');
+    }
+    text.push_str(")\n");
+}
+
+/// A statement of so many values, or none at all; now and then strings in place of numbers.
 fn add(text: &mut String, random: &mut Random, code: u32, word: &str, count: usize) {
     if count == 0 {
+        return;
+    }
+    if random.once_in(100) {
+        add_strings(text, random, code, word, count.min(4));
         return;
     }
     let operator = if random.once_in(50) { "+=" } else { "=" };

@@ -5,15 +5,38 @@ use std::fmt;
 /// A call on a pool, or on the built-in source.
 pub enum Call<'a> {
     MakeEmpty,
-    Load { label: u32, text: &'a [u8] },
-    Remove { label: u32 },
+    Load {
+        label: u32,
+        text: &'a [u8],
+    },
+    Remove {
+        label: u32,
+    },
     Clear,
-    Fetch { name: &'a [u8], room: usize },
+    Fetch {
+        name: &'a [u8],
+        room: usize,
+    },
+    FetchString {
+        name: &'a [u8],
+        place: usize,
+        room: usize,
+    },
     Totals,
-    Orientation { body: u32, epoch: f64 },
-    BuiltinOrientation { body: u32, epoch: f64 },
-    Radii { body: u32 },
-    BuiltinRadii { body: u32 },
+    Orientation {
+        body: u32,
+        epoch: f64,
+    },
+    BuiltinOrientation {
+        body: u32,
+        epoch: f64,
+    },
+    Radii {
+        body: u32,
+    },
+    BuiltinRadii {
+        body: u32,
+    },
 }
 
 impl Call<'_> {
@@ -31,7 +54,7 @@ impl Call<'_> {
 pub struct Answer {
     pub number: u32,
     pub line: u32,
-    /// What fetch or totals count.
+    /// What a fetch or totals count.
     pub counts: [u32; 3],
     /// The bits of an orientation or of radii.
     pub bits: [u64; 12],
@@ -73,6 +96,10 @@ impl fmt::Display for Call<'_> {
             Call::Clear => write!(f, "clear"),
             Call::Fetch { name, room } => {
                 write!(f, "fetch \"{}\" with room for {room}", name.escape_ascii())
+            }
+            Call::FetchString { name, place, room } => {
+                let name = name.escape_ascii();
+                write!(f, "fetch string {place} of \"{name}\" with room for {room}")
             }
             Call::Totals => write!(f, "totals"),
             Call::Orientation { body, epoch } => {

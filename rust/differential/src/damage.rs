@@ -1,10 +1,11 @@
 //! Damaged pools: words changed, sizes wrong. Every call returns, with the twin's answer.
 
 use twin::layout::{
-    pair as pair_of, HEADS_AT, NAMES_AT, NAME_WORDS, STATEMENT_TOTAL, TEXTS_AT, TEXT_TOTAL,
-    VALUES_AT, VALUE_TOTAL, WORDS,
+    kind, lower, pair as pair_of, Held, HEADS_AT, NAMES_AT, NAME_WORDS, STATEMENT_TOTAL,
+    STRINGS_AT, STRING_TOTAL, TEXTS_AT, TEXT_TOTAL, VALUES_AT, VALUE_TOTAL, WORDS,
 };
-use twin::limits::{STATEMENTS, TEXTS, VALUES, VALUE_EXPONENT};
+use twin::limits::{STATEMENTS, STRING_BYTES, STRING_ROOM, TEXTS, VALUES, VALUE_EXPONENT};
+use twin::text::Kind;
 
 use crate::bodies;
 use crate::call::Call;
@@ -84,6 +85,11 @@ fn ask_all(pair: &mut Pair, words: &[u64], random: &mut Random, tally: &mut Tall
             name: name.as_bytes(),
             room: random.one(&[0, 2, ROOM]),
         },
+        Call::FetchString {
+            name: name.as_bytes(),
+            place: random.one(&[0, 1, 1, 2, 4]),
+            room: random.one(&[0, 2, STRING_BYTES]),
+        },
         Call::Orientation { body, epoch },
         Call::Radii { body },
         Call::BuiltinOrientation { body, epoch },
@@ -109,6 +115,7 @@ fn wrong_size(random: &mut Random) -> usize {
         TEXTS_AT + 1,
         HEADS_AT,
         VALUES_AT,
+        STRINGS_AT,
         WORDS - 1,
         WORDS + 1,
         2 * WORDS,
@@ -124,19 +131,19 @@ fn damage(words: &mut [u64], random: &mut Random) {
     let head = HEADS_AT + random.below(statements);
     let name = NAMES_AT + random.below(NAME_WORDS * statements);
     let value = VALUES_AT + random.below(values);
-    match random.below(15) {
+    match random.below(20) {
         0 => words[random.below(WORDS)] ^= 1 << random.below(64),
         1 => {
             let place = random.one(&[text, head, name, value]);
             words[place] ^= 1 << random.below(64);
         }
         2 => {
-            let place = random.one(&[TEXT_TOTAL, STATEMENT_TOTAL, VALUE_TOTAL]);
+            let place = random.one(&[TEXT_TOTAL, STATEMENT_TOTAL, VALUE_TOTAL, STRING_TOTAL]);
             words[place] = total(words[place], random);
         }
         3 => words[text] = words[TEXTS_AT],
         4 => words[text] ^= pair_of(0, 1 << random.below(10)),
-        5 => words[head] = pair_of(random.one(&[0, 1, 2, u32::MAX]), words[head] as u32),
+        5 => words[head] = pair_of(random.one(&[0, 1, 2, 3, 4, u32::MAX]), words[head] as u32),
         6 => words[head] &= !0xFFFF_FFFF,
         7 => words[head] = words[head].wrapping_add(random.one(&[1, u64::MAX])),
         8 => words[name] = name_word(words[name], random),
@@ -148,8 +155,64 @@ fn damage(words: &mut [u64], random: &mut Random) {
         11 => words[value] = random.bits(),
         12 => shift_count(words, head, HEADS_AT, random),
         13 => shift_count(words, text, TEXTS_AT, random),
-        _ => words.swap(text, TEXTS_AT),
+        14 => words.swap(text, TEXTS_AT),
+        _ => damage_strings(words, head, value, random),
     }
+}
+
+/// Changes a byte of the strings, a length, or two of them that still add up.
+fn damage_strings(words: &mut [u64], head: usize, value: usize, random: &mut Random) {
+    let bytes = (words[STRING_TOTAL] as usize).clamp(1, STRING_ROOM);
+    match random.below(8) {
+        0 => put_byte(words, random.below(bytes), random.bits() as u8),
+        1 => {
+            // The last byte in use, or the first that is not.
+            let place = (bytes - random.below(2)).min(STRING_ROOM - 1);
+            put_byte(words, place, random.one(b"\0\x1f\x7f\x80\xff\n\t~"));
+        }
+        2 => words[value] = random.one(&[0, 1, 59, 60, 61, 1 << 32, 1 << 63, u64::MAX]),
+        3 => words[value] = words[value].wrapping_add(random.one(&[1, u64::MAX])),
+        4 => {
+            let (length, more) = (words[value], random.one(&[1, 20, u64::MAX]));
+            words[value] = length.wrapping_add(more);
+            words[STRING_TOTAL] = words[STRING_TOTAL].wrapping_add(more);
+        }
+        5 => words[head] ^= pair_of(2, 0),
+        _ => shift_length(words, random),
+    }
+}
+
+/// Two strings whose bytes are as many as before, one of them at the limit of its length or over it.
+fn shift_length(words: &mut [u64], random: &mut Random) {
+    let strings = string_values(words);
+    if strings.is_empty() {
+        return;
+    }
+    let (one, other) = (random.one(&strings), random.one(&strings));
+    let bytes = words[one].wrapping_add(words[other]);
+    words[one] = STRING_BYTES as u64 + random.one(&[0, 1, 1, 2]);
+    words[other] = bytes.wrapping_sub(words[one]);
+}
+
+/// The words of the values that are strings; none if the pool is damaged already.
+fn string_values(words: &[u64]) -> Vec<usize> {
+    let mut places = Vec::new();
+    let mut end = VALUES_AT;
+    for head in Held::of(words).map_or(&[][..], |held| held.heads) {
+        let start = end;
+        end += lower(*head) as usize;
+        if kind(*head) == Kind::String {
+            places.extend(start..end);
+        }
+    }
+    places
+}
+
+/// Puts a byte into the area of strings.
+fn put_byte(words: &mut [u64], place: usize, byte: u8) {
+    let shift = 56 - 8 * (place % 8);
+    let word = &mut words[STRINGS_AT + place / 8];
+    *word = *word & !(0xFF << shift) | u64::from(byte) << shift;
 }
 
 /// Two counts that still add up, or that do so but for 2^32.
@@ -176,6 +239,8 @@ fn total(word: u64, random: &mut Random) -> u64 {
         STATEMENTS as u64 + 1,
         VALUES as u64,
         VALUES as u64 + 1,
+        STRING_ROOM as u64,
+        STRING_ROOM as u64 + 1,
         1 << 32,
         (1 << 32) + 1,
         u64::MAX,

@@ -6,8 +6,9 @@ use twin::layout::{Held, WORDS};
 use crate::bodies;
 use crate::call::Call;
 use crate::epochs::epoch;
-use crate::pair::{Pair, ROOM};
+use crate::pair::{Pair, ROOM, STRING_ROOM};
 use crate::random::Random;
+use crate::strings::{quoted, string};
 use crate::tally::Tally;
 use crate::text_parts::name;
 use crate::texts;
@@ -37,7 +38,7 @@ pub fn run(random: &mut Random, histories: usize) -> Tally {
 
 /// One call; the number that it is answered with.
 fn step(pair: &mut Pair, kept: &mut Kept, random: &mut Random) -> u32 {
-    match random.below(32) {
+    match random.below(36) {
         0..=12 => load(pair, kept, random),
         13..=17 => {
             let label = held_label(kept, random);
@@ -59,6 +60,13 @@ fn step(pair: &mut Pair, kept: &mut Kept, random: &mut Random) -> u32 {
             let room = random.one(&[0, 1, 2, 3, 4, 8, 64, ROOM, ROOM]);
             let name = name.as_bytes();
             pair.ask(&Call::Fetch { name, room }).number
+        }
+        32..=35 => {
+            let name = any_name(random);
+            let place = random.one(&[0, 1, 1, 1, 2, 3, 5, 9, usize::MAX]);
+            let room = random.one(&[0, 1, 8, 20, STRING_ROOM, STRING_ROOM]);
+            let name = name.as_bytes();
+            pair.ask(&Call::FetchString { name, place, room }).number
         }
         25..=28 => {
             let (body, epoch) = (bodies::code(random), epoch(random));
@@ -101,7 +109,12 @@ fn filler(random: &mut Random) -> Vec<u8> {
     for value in 0..random.between(1, 2000) {
         text.push_str(&format!("{value}\n"));
     }
-    text.push(')');
+    text.push_str(")\nCAPTIONS += (\n");
+    for _ in 0..random.below(100) {
+        text.push_str(&quoted(&string(random)));
+        text.push('\n');
+    }
+    text.push_str("'')");
     text.into_bytes()
 }
 
@@ -128,7 +141,7 @@ fn any_name(random: &mut Random) -> String {
     match random.below(12) {
         0 => String::from(random.one(&["", " X", "X ", "X\0", "\u{e9}", "X=", "(", "NOWHERE"])),
         1 => "N".repeat(random.between(31, 70)),
-        2 => String::from("FILLER"),
+        2 => String::from(random.one(&["FILLER", "CAPTIONS"])),
         3..=6 => name(random),
         _ => bodies::variable(random),
     }
@@ -147,8 +160,8 @@ fn compare_with_kept(pair: &mut Pair, kept: &Kept) {
     assert!(ours == fresh, "after a history, not what {labels:?} hold");
 }
 
-/// The words of a pool that are in use.
-fn in_use(pool: &[u64]) -> Vec<u64> {
+/// The words of a pool that are in use, and the bytes of its strings.
+fn in_use(pool: &[u64]) -> (Vec<u64>, Vec<u8>) {
     let held = Held::of(pool).expect("a pool that was never damaged");
     let areas = [
         held.texts,
@@ -156,5 +169,7 @@ fn in_use(pool: &[u64]) -> Vec<u64> {
         held.names.as_flattened(),
         held.values,
     ];
-    areas.concat()
+    let strings = &held.strings;
+    let bytes = (0..strings.length).map(|place| strings.byte(place));
+    (areas.concat(), bytes.collect())
 }

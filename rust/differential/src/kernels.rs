@@ -7,7 +7,7 @@ use twin::text::read;
 use crate::bodies::TABLE;
 use crate::call::Call;
 use crate::epochs::{admitted, epoch};
-use crate::pair::{Pair, ROOM};
+use crate::pair::{Pair, ROOM, STRING_ROOM};
 use crate::random::Random;
 use crate::tally::Tally;
 
@@ -22,7 +22,7 @@ macro_rules! kernel {
 }
 
 /// The kernels of `examples/kernels`, by name.
-pub const KERNELS: [(&str, &[u8]); 7] = [
+pub const KERNELS: [(&str, &[u8]); 8] = [
     kernel!("planets"),
     kernel!("radii"),
     kernel!("moon"),
@@ -30,7 +30,11 @@ pub const KERNELS: [(&str, &[u8]); 7] = [
     kernel!("triton"),
     kernel!("mars-example"),
     kernel!("mars-example-short"),
+    kernel!("museum"),
 ];
+
+/// More strings than a variable of a kernel has.
+const STRINGS: usize = 9;
 
 /// All legal codes.
 const CODES: [std::ops::RangeInclusive<u32>; 2] = [1..=10, 100..=999];
@@ -81,8 +85,23 @@ fn load(pair: &mut Pair, label: u32, text: &[u8], tally: &mut Tally) {
         let fetched = pair.ask(&Call::Fetch { name, room: ROOM });
         tally.add(fetched.number);
         let count = fetched.counts[0] as usize;
-        for room in [count - 1, count] {
+        for room in [count.saturating_sub(1), count] {
             tally.add(pair.ask(&Call::Fetch { name, room }).number);
+        }
+        fetch_strings(pair, name, tally);
+    }
+}
+
+/// Fetches the strings of a variable, from place 0 to past its end, with enough room and with too
+/// little.
+fn fetch_strings(pair: &mut Pair, name: &[u8], tally: &mut Tally) {
+    for place in 0..=STRINGS {
+        let room = STRING_ROOM;
+        let fetched = pair.ask(&Call::FetchString { name, place, room });
+        tally.add(fetched.number);
+        let length = fetched.counts[0] as usize;
+        for room in [length.saturating_sub(1), length] {
+            tally.add(pair.ask(&Call::FetchString { name, place, room }).number);
         }
     }
 }

@@ -3,6 +3,7 @@
 //! difference can be met again.
 
 mod bodies;
+mod buffers;
 mod call;
 pub mod damage;
 pub mod decimals;
@@ -13,6 +14,7 @@ mod library;
 pub mod orientations;
 mod pair;
 mod random;
+pub mod strings;
 mod tally;
 mod text_parts;
 pub mod texts;

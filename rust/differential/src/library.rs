@@ -2,14 +2,15 @@
 
 use globe_sys::{
     globe_axes, globe_builtin_orientation, globe_builtin_radii, globe_clear, globe_fetch,
-    globe_load, globe_make_empty, globe_orientation, globe_oriented, globe_radii, globe_remove,
-    globe_reply, globe_totals,
+    globe_fetch_string, globe_fetched, globe_load, globe_make_empty, globe_orientation,
+    globe_oriented, globe_radii, globe_remove, globe_reply, globe_totals,
 };
 
+use crate::buffers::Buffers;
 use crate::call::{Answer, Call};
 
-/// Makes a call; a fetch gets as much of the buffer as it has room.
-pub fn answer(call: &Call, pool: &mut [u64], buffer: &mut [f64]) -> Answer {
+/// Makes a call; a fetch gets as much of its buffer as it has room.
+pub fn answer(call: &Call, pool: &mut [u64], buffers: &mut Buffers) -> Answer {
     let (memory, words) = (pool.as_mut_ptr(), pool.len());
     // Safety: each pointer has as many elements behind it as is said, and no two slices overlap.
     unsafe {
@@ -21,9 +22,16 @@ pub fn answer(call: &Call, pool: &mut [u64], buffer: &mut [f64]) -> Answer {
             Call::Remove { label } => replied(globe_remove(memory, words, label)),
             Call::Clear => replied(globe_clear(memory, words)),
             Call::Fetch { name, room } => {
-                let buffer = buffer[..room].as_mut_ptr();
-                let f = globe_fetch(memory, words, name.as_ptr(), name.len(), buffer, room);
-                Answer::of(f.number, f.line).with_counts([f.count, 0, 0])
+                let buffer = buffers.values[..room].as_mut_ptr();
+                let (name, length) = (name.as_ptr(), name.len());
+                fetched(globe_fetch(memory, words, name, length, buffer, room))
+            }
+            Call::FetchString { name, place, room } => {
+                let buffer = buffers.bytes[..room].as_mut_ptr();
+                let (name, length) = (name.as_ptr(), name.len());
+                fetched(globe_fetch_string(
+                    memory, words, name, length, place, buffer, room,
+                ))
             }
             Call::Totals => {
                 let c = globe_totals(memory, words);
@@ -43,6 +51,10 @@ pub fn answer(call: &Call, pool: &mut [u64], buffer: &mut [f64]) -> Answer {
 
 fn replied(r: globe_reply) -> Answer {
     Answer::of(r.number, r.line)
+}
+
+fn fetched(f: globe_fetched) -> Answer {
+    Answer::of(f.number, f.line).with_counts([f.count, 0, 0])
 }
 
 fn oriented(o: globe_oriented) -> Answer {

@@ -2,20 +2,19 @@
 
 use std::ops::Range;
 
-use twin::limits::VALUES;
+use twin::limits::{STRING_BYTES, VALUES};
 
+use crate::buffers::Buffers;
 use crate::call::{Answer, Call};
 use crate::{library, twin_side};
 
-/// Words before and after a pool, and doubles after a buffer, that no call may touch.
+/// Words before and after a pool that no call may touch.
 const GUARD: usize = 8;
 const GUARD_WORD: u64 = 0x5AFE_5AFE_5AFE_5AFE;
 
-/// What a buffer holds before a fetch: a NaN that no value is.
-const UNWRITTEN: u64 = 0x7FF8_DEAD_BEEF_0001;
-
-/// Room for any variable.
+/// Room for any variable, and for any string.
 pub const ROOM: usize = VALUES;
+pub const STRING_ROOM: usize = STRING_BYTES;
 
 /// The same pool on both sides, each between guards.
 pub struct Pair {
@@ -23,8 +22,8 @@ pub struct Pair {
     twin: Vec<u64>,
     /// The library's memory before the call.
     before: Vec<u64>,
-    library_buffer: Vec<f64>,
-    twin_buffer: Vec<f64>,
+    library_buffers: Buffers,
+    twin_buffers: Buffers,
 }
 
 impl Pair {
@@ -34,8 +33,8 @@ impl Pair {
             library: Vec::new(),
             twin: Vec::new(),
             before: Vec::new(),
-            library_buffer: Vec::new(),
-            twin_buffer: Vec::new(),
+            library_buffers: Buffers::default(),
+            twin_buffers: Buffers::default(),
         };
         pair.set(words);
         pair
@@ -58,26 +57,28 @@ impl Pair {
 
     /// The values that the last fetch wrote.
     pub fn fetched(&self, answer: &Answer) -> &[f64] {
-        &self.library_buffer[..answer.counts[0] as usize]
+        &self.library_buffers.values[..answer.counts[0] as usize]
+    }
+
+    /// The string that the last fetch of one wrote.
+    pub fn fetched_string(&self, answer: &Answer) -> &[u8] {
+        &self.library_buffers.bytes[..answer.counts[0] as usize]
     }
 
     /// Makes a call on both sides. It fails unless the answers are equal, and so are both memories
     /// and buffers to their last bits, and unless a refusal and a question leave what they should.
     pub fn ask(&mut self, call: &Call) -> Answer {
-        let room = match call {
-            Call::Fetch { room, .. } => *room,
-            _ => 0,
-        };
-        self.fill_buffers(room);
+        self.library_buffers.prepare(call);
+        self.twin_buffers.prepare(call);
         self.before.clone_from(&self.library);
 
         let inside = self.inside();
         let answer = library::answer(
             call,
             &mut self.library[inside.clone()],
-            &mut self.library_buffer,
+            &mut self.library_buffers,
         );
-        let expected = twin_side::answer(call, &mut self.twin[inside], &mut self.twin_buffer);
+        let expected = twin_side::answer(call, &mut self.twin[inside], &mut self.twin_buffers);
 
         assert_eq!(answer, expected, "the library and the twin differ: {call}");
         if self.library != self.twin {
@@ -86,34 +87,13 @@ impl Pair {
         if (answer.number != 0 || !call.writes()) && self.library != self.before {
             self.fail(call, &self.before, "memory changed that should be left");
         }
-        self.compare_buffers(call, &answer);
+        self.library_buffers
+            .compare(&self.twin_buffers, call, &answer);
         answer
     }
 
     fn inside(&self) -> Range<usize> {
         GUARD..self.library.len() - GUARD
-    }
-
-    fn fill_buffers(&mut self, room: usize) {
-        for buffer in [&mut self.library_buffer, &mut self.twin_buffer] {
-            buffer.clear();
-            buffer.resize(room + GUARD, f64::from_bits(UNWRITTEN));
-        }
-    }
-
-    /// Fails unless the values of a fetch are the twin's, and nothing else was written.
-    fn compare_buffers(&self, call: &Call, answer: &Answer) {
-        let count = match call {
-            Call::Fetch { .. } => answer.counts[0] as usize,
-            _ => 0,
-        };
-        let (values, rest) = self.library_buffer.split_at(count);
-        for (place, (ours, theirs)) in values.iter().zip(&self.twin_buffer).enumerate() {
-            let same = ours.to_bits() == theirs.to_bits();
-            assert!(same, "value {place} is {ours:?}, not {theirs:?}: {call}");
-        }
-        let left = rest.iter().all(|value| value.to_bits() == UNWRITTEN);
-        assert!(left, "more than {count} values were written: {call}");
     }
 
     /// Fails with the first word that differs.

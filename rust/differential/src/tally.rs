@@ -3,7 +3,7 @@
 use std::fmt;
 
 /// Success and the refusals.
-const NUMBERS: usize = 16;
+const NUMBERS: usize = 17;
 
 /// Counts of answers by their number.
 #[derive(Clone, Copy, Debug, Default)]

@@ -5,9 +5,10 @@ use twin::limits::LINE_BYTES;
 
 use crate::decimals::{inside, near, outside};
 use crate::random::Random;
+use crate::strings::{faulty, quoted, string};
 
-/// Lines of right texts are broken before they get longer than this.
-const BREAK: usize = 80;
+/// Lines of right texts are broken before a value that would make them longer than this.
+const BREAK: usize = 120;
 
 /// Names that come again, so that statements meet.
 const NAMES: &[&str] = &[
@@ -49,11 +50,14 @@ pub fn statement(random: &mut Random, end: &str) -> String {
     let operator = operator(random);
     let indent = random.one(&["", "", " ", "\t"]);
     let mut text = format!("{indent}{name}{operator}");
+    let strings = random.once_in(4);
     if random.once_in(3) {
-        text.push_str(&inside(random));
+        let room = BREAK - text.len();
+        text.push_str(&value(random, strings, room));
     } else {
         let count = random.one(&[1, 1, 2, 3, 3, 4, 6, 9]);
-        list(&mut text, random, end, count);
+        let values: Vec<String> = (0..count).map(|_| value(random, strings, BREAK)).collect();
+        list(&mut text, random, end, &values);
     }
     if random.once_in(16) {
         let blanks = random.between(LINE_BYTES - 1, LINE_BYTES) - last_line(&text);
@@ -65,23 +69,36 @@ pub fn statement(random: &mut Random, end: &str) -> String {
     text
 }
 
+/// A number, or a string of no more bytes than there is room for.
+fn value(random: &mut Random, string_wanted: bool, room: usize) -> String {
+    if !string_wanted {
+        return inside(random);
+    }
+    let string = quoted(&string(random));
+    if string.len() <= room {
+        string
+    } else {
+        String::from("'a caption'")
+    }
+}
+
 /// The bytes of the line that a text ends in.
 fn last_line(text: &str) -> usize {
     text.len() - text.rfind('\n').map_or(0, |at| at + 1)
 }
 
-/// A list of so many numbers.
-fn list(text: &mut String, random: &mut Random, end: &str, count: usize) {
+/// A list of values.
+fn list(text: &mut String, random: &mut Random, end: &str, values: &[String]) {
     text.push_str(random.one(&["(", "( ", "(,", "( ,\t"]));
-    for place in 0..count {
+    for (place, value) in values.iter().enumerate() {
         if place > 0 {
             text.push_str(random.one(&[" ", " ", ", ", ",", "\t", " , ", ",,"]));
         }
-        if last_line(text) > BREAK || random.once_in(8) {
+        if last_line(text) + value.len() > BREAK || random.once_in(8) {
             text.push_str(end);
             text.push_str(random.one(&["", "  ", "\t", ","]));
         }
-        text.push_str(&inside(random));
+        text.push_str(value);
     }
     text.push_str(random.one(&[")", " )", ",)", "\t)"]));
 }
@@ -163,7 +180,7 @@ pub fn delimiter(random: &mut Random, word: &str, end: &str) -> String {
 
 /// A data line that is faulty in one of many ways, without its end.
 pub fn faulty_line(random: &mut Random) -> Vec<u8> {
-    match random.below(12) {
+    match random.below(14) {
         0 | 1 => long_line(random),
         2 | 3 => bad_line(random),
         4 => format!("{} = {}", name(random), near(random)).into_bytes(),
@@ -177,6 +194,7 @@ pub fn faulty_line(random: &mut Random) -> Vec<u8> {
             let rest = random.one(&["x", ",", ")", "(", "1", "= 2", "1E99", "#"]);
             format!("{} = {} {rest}", name(random), inside(random)).into_bytes()
         }
+        9 | 10 => format!("{} = {}", name(random), faulty(random)).into_bytes(),
         8 => format!("{}{} = 1", name(random), "N".repeat(random.between(30, 36))).into_bytes(),
         _ => random.one(FAULTS).as_bytes().to_vec(),
     }
@@ -252,6 +270,27 @@ const FAULTS: &[&str] = &[
     "X Y = 1",
     "X.Y = 1",
     "X = 'MARS'",
+    "X = 'MARS",
+    "X = '",
+    "X = '''",
+    "X = ''''",
+    "X = 'a''",
+    "X = 'a''b'",
+    "X = 'a'b",
+    "X = 'a' 'b'",
+    "X = 'a',",
+    "X = 'a')",
+    "X = 1'a'",
+    "X = +'a'",
+    "X = ( 'a' 1 )",
+    "X = ( 1 'a' )",
+    "X = ( 'a' 1E99 )",
+    "X = ( 1E99 'a' )",
+    "X = ( 'a' 'b",
+    "X = ( 'a'('b'))",
+    "X = ( 'a'b )",
+    "'X' = 1",
+    "X '= 1'",
     "X = @1-JAN-2000",
     "\\begindata x",
     "\\begintextx",
@@ -291,6 +330,11 @@ pub const TOKENS: &[&str] = &[
     "E",
     "1E99",
     "9007199254740993",
+    "'",
+    "'",
+    "''",
+    "'a'",
+    "'Mars, (red)'",
     "\u{1}",
     "\u{e9}",
 ];

@@ -2,7 +2,7 @@
 //! hostile ones, and ones at the limits.
 
 use twin::layout::WORDS;
-use twin::limits::{STATEMENTS, TEXTS, TEXT_BYTES, VALUES};
+use twin::limits::{STATEMENTS, STRING_BYTES, STRING_ROOM, TEXTS, TEXT_BYTES, VALUES};
 
 use crate::call::Call;
 use crate::kernels::KERNELS;
@@ -20,10 +20,11 @@ pub fn run(random: &mut Random, texts: usize) -> Tally {
         pool_of(random, &vec![String::new(); TEXTS]),
         pool_of(random, &[statements(STATEMENTS - 3)]),
         pool_of(random, &[values(VALUES - 5)]),
+        pool_of(random, &[strings(STRING_ROOM - 20)]),
     ];
     let mut pair = Pair::new(&pools[0]);
     for _ in 0..texts {
-        let place = random.one(&[0, 0, 0, 0, 0, 0, 1, 2, 3, 4]);
+        let place = random.one(&[0, 0, 0, 0, 0, 0, 1, 2, 3, 4, 5]);
         pair.set(&pools[place]);
         let text = text(random);
         // Held labels count up from 0, so this one is held now and then.
@@ -54,6 +55,16 @@ fn statements(count: usize) -> String {
 /// A text of so many values.
 fn values(count: usize) -> String {
     format!("\\begindata\nX = (\n{})\n", "1\n".repeat(count))
+}
+
+/// A text of strings with so many bytes.
+fn strings(bytes: usize) -> String {
+    let mut text = String::from("\\begindata\nX = (\n");
+    for before in (0..bytes).step_by(STRING_BYTES) {
+        let length = STRING_BYTES.min(bytes - before);
+        text.push_str(&format!("'{}'\n", "c".repeat(length)));
+    }
+    text + ")\n"
 }
 
 /// A text of some kind.
@@ -124,7 +135,7 @@ fn changed(random: &mut Random) -> Vec<u8> {
 
 /// Changes a byte, a token or a line.
 fn change(text: &mut Vec<u8>, random: &mut Random) {
-    const BYTES: &[u8] = b" \t,()=+-.09EDed\r\n\\_X\x01\x7f\xff";
+    const BYTES: &[u8] = b" \t,()=+-.09EDed\r\n\\_X''\x01\x7f\xff";
     let place = random.below(text.len() + 1);
     match random.below(10) {
         0 | 1 => text.insert(place, random.one(BYTES)),
@@ -210,14 +221,15 @@ fn changed_kernel(random: &mut Random) -> Vec<u8> {
     text
 }
 
-/// About as many statements or values as a pool holds.
+/// About as many statements, values or bytes of strings as a pool holds.
 fn many(random: &mut Random) -> Vec<u8> {
     let off = random.below(5);
-    if random.once_in(2) {
-        statements(STATEMENTS + 2 - off).into_bytes()
-    } else {
-        values(VALUES + 2 - off).into_bytes()
-    }
+    let text = match random.below(3) {
+        0 => statements(STATEMENTS + 2 - off),
+        1 => values(VALUES + 2 - off),
+        _ => strings(STRING_ROOM + 2 - off),
+    };
+    text.into_bytes()
 }
 
 /// About as many bytes as a text may have, or many more.

@@ -2,22 +2,27 @@
 
 use twin::answers::{orientation, radii};
 use twin::builtin::{builtin_orientation, builtin_radii};
-use twin::pool::{clear, fetch, load, make_empty, remove, totals};
+use twin::pool::{clear, fetch, fetch_string, load, make_empty, remove, totals};
 use twin::refusal::{Refusal, Refused};
 use twin::rotation::Orientation;
 
+use crate::buffers::Buffers;
 use crate::call::{Answer, Call};
 
-/// Makes a call; a fetch gets as much of the buffer as it has room.
-pub fn answer(call: &Call, pool: &mut [u64], buffer: &mut [f64]) -> Answer {
+/// Makes a call; a fetch gets as much of its buffer as it has room.
+pub fn answer(call: &Call, pool: &mut [u64], buffers: &mut Buffers) -> Answer {
     match *call {
         Call::MakeEmpty => answered(make_empty(pool), |()| Answer::default()),
         Call::Load { label, text } => answered(load(pool, label, text), |()| Answer::default()),
         Call::Remove { label } => answered(remove(pool, label), |()| Answer::default()),
         Call::Clear => answered(clear(pool), |()| Answer::default()),
-        Call::Fetch { name, room } => answered(fetch(pool, name, &mut buffer[..room]), |count| {
-            Answer::default().with_counts([count as u32, 0, 0])
-        }),
+        Call::Fetch { name, room } => {
+            answered(fetch(pool, name, &mut buffers.values[..room]), counted)
+        }
+        Call::FetchString { name, place, room } => {
+            let buffer = &mut buffers.bytes[..room];
+            answered(fetch_string(pool, name, place, buffer), counted)
+        }
         Call::Totals => answered(totals(pool), |t| {
             Answer::default().with_counts([t.texts, t.statements, t.values].map(|n| n as u32))
         }),
@@ -34,6 +39,10 @@ fn answered<T>(result: Result<T, Refused>, answer: impl Fn(T) -> Answer) -> Answ
         Ok(value) => answer(value),
         Err(refused) => Answer::of(refused.refusal.number(), refused.line as u32),
     }
+}
+
+fn counted(count: usize) -> Answer {
+    Answer::default().with_counts([count as u32, 0, 0])
 }
 
 fn oriented(result: Result<Orientation, Refusal>) -> Answer {

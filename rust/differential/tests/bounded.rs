@@ -4,11 +4,13 @@ use std::fs;
 use std::io::{self, Write};
 use std::path::Path;
 
-use differential::{damage, decimals, histories, kernels, orientations, texts, Random, Tally};
+use differential::{
+    damage, decimals, histories, kernels, orientations, strings, texts, Random, Tally,
+};
 
 const SEED: u64 = 2000;
 
-/// The least that each of the fifteen refusals is met where it belongs, and any refusal elsewhere.
+/// The least that each of the sixteen refusals is met where it belongs, and any refusal elsewhere.
 const LEAST_AT_HOME: u64 = 500;
 const LEAST: u64 = 100;
 
@@ -28,8 +30,8 @@ fn generated_texts() {
 fn call_histories() {
     let tally = histories::run(&mut Random::new(SEED), 20_000);
     report("calls of 20000 histories", &tally);
-    tally.expect(0..=14, LEAST);
-    tally.expect([8, 13, 14], LEAST_AT_HOME);
+    tally.expect((0..=14).chain([16]), LEAST);
+    tally.expect([8, 13, 14, 16], LEAST_AT_HOME);
 }
 
 #[test]
@@ -37,7 +39,7 @@ fn orientations_by_pools() {
     let tally = orientations::run_on_pools(&mut Random::new(SEED), 300_000);
     report("orientations by pools", &tally);
     tally.expect([0], 100_000);
-    tally.expect(9..=12, LEAST_AT_HOME);
+    tally.expect([9, 10, 11, 12, 16], LEAST_AT_HOME);
 }
 
 #[test]
@@ -53,6 +55,13 @@ fn decimal_strings() {
     let tally = decimals::run(&mut Random::new(SEED), 200_000);
     report("decimal strings", &tally);
     tally.expect([0, 5, 6], LEAST);
+}
+
+#[test]
+fn strings_in_quotes() {
+    let tally = strings::run(&mut Random::new(SEED), 50_000);
+    report("strings in quotes", &tally);
+    tally.expect([0, 5, 13, 14, 16], LEAST_AT_HOME);
 }
 
 #[test]

@@ -1,8 +1,8 @@
 //! The header, the library and the twin have the same limits.
 
-use globe_sys::{globe_pool_words, GLOBE_POOL_WORDS, GLOBE_TEXT_BYTES, GLOBE_VALUES};
+use globe_sys::{globe_pool_words, GLOBE_POOL_WORDS, GLOBE_STRING, GLOBE_TEXT_BYTES, GLOBE_VALUES};
 use twin::layout::WORDS;
-use twin::limits::{TEXT_BYTES, VALUES};
+use twin::limits::{STRING_BYTES, TEXT_BYTES, VALUES};
 
 #[test]
 fn limits_are_the_same() {
@@ -10,4 +10,5 @@ fn limits_are_the_same() {
     assert_eq!(globe_pool_words(), WORDS);
     assert_eq!(GLOBE_TEXT_BYTES, TEXT_BYTES);
     assert_eq!(GLOBE_VALUES, VALUES);
+    assert_eq!(GLOBE_STRING, STRING_BYTES);
 }
