@@ -60,6 +60,6 @@ reading-no-nan bs x e = below-no-nan 200 x (reading-below bs x e)
 pub reading-bits : (bs : List ℕ) (x : Float) → reading bs ≡ Number x → toBits binary64 x % 2 ^ 63 < 2 ^ 52 * (1023 + 200)
 reading-bits bs x e = bits-below binary64 200 x (lit≤ tt) (reading-below bs x e)
 
-pub reading-empty : reading [] ≡ BadForm R.Syntax
+pub reading-empty : reading [] ≡ BadForm R.BadValue
 unfolding reading written
 reading-empty = refl

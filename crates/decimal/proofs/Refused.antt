@@ -1,4 +1,4 @@
--- What a reading that is no number carries: SYNTAX where the form is broken, NUMBER where it is right but outside the class.
+-- What a reading that is no number carries: BAD VALUE where the form is broken, NUMBER where it is right but outside the class.
 -- Assumes nothing.
 use Prim.Native.Nat.{ℕ}
 use mathlib.Core.Path.{_≡_, refl}
@@ -13,7 +13,7 @@ use Rattle.decimal.specs.declared.Reading.the-variants.{Number, BadForm,
 
 abbrev pub Carries : Reading → Type 0
 Carries (Number x) = Unit
-Carries (BadForm r) = r ≡ R.Syntax
+Carries (BadForm r) = r ≡ R.BadValue
 Carries (OutsideClass r) = r ≡ R.Number
 
 valued-carries : (v : Written) → Carries (valued v)

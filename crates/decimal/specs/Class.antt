@@ -37,9 +37,10 @@ scaledBy w (negsuc k) = double w ⊘ double (10 ^ suc k)
 abbrev pub signed : (minus : Bool) → Float → Float
 signed m x = if m then neg x else x
 
+-- "form right, outside the class" is "6 NUMBER"; a broken form is "19 BAD VALUE"
 abbrev pub valued : Written → Reading
 valued (number m w k) = if inClass w k then Number (signed m (scaledBy w k)) else OutsideClass R.Number
-valued broken = BadForm R.Syntax
+valued broken = BadForm R.BadValue
 
 unfoldable pub reading : List ℕ → Reading
 unfolding written

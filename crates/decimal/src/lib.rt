@@ -33,5 +33,5 @@ pub fn read(value: &[u8]) -> Reading
             return scale(sign.minus, whole.w, exponent.up, exponent.down);
         }
     }
-    Reading::BadForm(Refusal::Syntax)
+    Reading::BadForm(Refusal::BadValue)
 }

@@ -1,2 +1,3 @@
 -- The refusals and their numbers.
 pub mod Numbers
+pub mod Before

@@ -1,4 +1,5 @@
--- "Success is number 0"; the table of "Refusal numbers", a line for each refusal, with document 02's "16 MIXED KIND". Definitions only.
+-- "Success is number 0"; the table of "Refusal numbers", a line for each refusal, with document 02's "16 MIXED KIND" and "5 becomes 17 BAD
+-- NAME, 18 NO OPERATOR, 19 BAD VALUE .., 20 OPEN LIST .., 21 REST OF LINE": 5 is not given any more. Definitions only.
 use Prim.Native.Nat.{ℕ}
 use Rattle.refusal.specs.declared.Refusal.{Refusal}
 use Rattle.refusal.specs.declared.Refusal.the-variants as R
@@ -11,7 +12,6 @@ numberOf R.LabelHeld = 1
 numberOf R.TextTooLong = 2
 numberOf R.LineTooLong = 3
 numberOf R.BadByte = 4
-numberOf R.Syntax = 5
 numberOf R.Number = 6
 numberOf R.NoRoom = 7
 numberOf R.NotHeld = 8
@@ -23,3 +23,8 @@ numberOf R.NoVariable = 13
 numberOf R.ShortBuffer = 14
 numberOf R.DamagedPool = 15
 numberOf R.MixedKind = 16
+numberOf R.BadName = 17
+numberOf R.NoOperator = 18
+numberOf R.BadValue = 19
+numberOf R.OpenList = 20
+numberOf R.RestOfLine = 21

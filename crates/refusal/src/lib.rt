@@ -8,7 +8,6 @@ pub enum Refusal {
     TextTooLong,
     LineTooLong,
     BadByte,
-    Syntax,
     Number,
     NoRoom,
     NotHeld,
@@ -20,6 +19,11 @@ pub enum Refusal {
     ShortBuffer,
     DamagedPool,
     MixedKind,
+    BadName,
+    NoOperator,
+    BadValue,
+    OpenList,
+    RestOfLine,
 }
 
 // The number that the table gives a refusal.
@@ -31,7 +35,6 @@ pub fn number(refusal: Refusal) -> u32
         Refusal::TextTooLong => 2,
         Refusal::LineTooLong => 3,
         Refusal::BadByte => 4,
-        Refusal::Syntax => 5,
         Refusal::Number => 6,
         Refusal::NoRoom => 7,
         Refusal::NotHeld => 8,
@@ -43,5 +46,10 @@ pub fn number(refusal: Refusal) -> u32
         Refusal::ShortBuffer => 14,
         Refusal::DamagedPool => 15,
         Refusal::MixedKind => 16,
+        Refusal::BadName => 17,
+        Refusal::NoOperator => 18,
+        Refusal::BadValue => 19,
+        Refusal::OpenList => 20,
+        Refusal::RestOfLine => 21,
     }
 }

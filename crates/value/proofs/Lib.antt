@@ -5,6 +5,8 @@ pub mod Standing
 pub mod Scanning
 -- the definitions
 pub mod Found
+pub mod Starts
 pub mod Readings
+pub mod Numbered
 pub mod Quotes
 pub mod Written

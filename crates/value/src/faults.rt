@@ -1,4 +1,4 @@
-// What may be wrong with a line, and the refusal that it is: document 01, "Refusal numbers".
+// What may be wrong with a line, and the refusal that it is: document 01, "Refusal numbers", and document 02, K3.
 use refusal::Refusal;
 ghost use mathlib.Core.Path.{_≡_};
 ghost use Rattle.value.specs.Faults.{refusalOf};
@@ -22,11 +22,11 @@ pub fn refusal_of(fault: Fault) -> Refusal
     match fault {
         Fault::TooLong => Refusal::LineTooLong,
         Fault::BadByte => Refusal::BadByte,
-        Fault::BadName => Refusal::Syntax,
-        Fault::NoOperator => Refusal::Syntax,
-        Fault::BadValue => Refusal::Syntax,
-        Fault::OpenList => Refusal::Syntax,
-        Fault::RestOfLine => Refusal::Syntax,
+        Fault::BadName => Refusal::BadName,
+        Fault::NoOperator => Refusal::NoOperator,
+        Fault::BadValue => Refusal::BadValue,
+        Fault::OpenList => Refusal::OpenList,
+        Fault::RestOfLine => Refusal::RestOfLine,
         Fault::OutsideClass => Refusal::Number,
     }
 }

@@ -1,0 +1,2 @@
+-- What became of a number.
+pub mod Before
