@@ -2,21 +2,12 @@
 use Prim.Native.Nat.{ℕ, zero, suc, _+_, _-_, _<_}
 use native.Mathlib.Nat.{not-suc-le-zero, add-zero, zero-add}
 use native.Mathlib.Omega.{arith}
-use mathlib.Core.Path.{_≡_, refl, sym, _∙_}
-use mathlib.Core.Bool.{Bool, true, false}
+use mathlib.Core.Path.{_≡_, sym, _∙_}
 use mathlib.Core.List.{List}
-use borrow.Author.Tests.{ltb-true}
-use lib.Dec.{ltb}
 use lib.Ieee.{Float}
 use lib.ListN.{length}
-use Rattle.plain.specs.Bytes.{CLOSE}
-use Rattle.plain.specs.Choice.{if_then_else_}
-use Rattle.plain.specs.Runs.{past}
-use Rattle.value.specs.Classes.{separator, stands}
 use Rattle.value.specs.declared.faults.Fault.{Fault}
-use Rattle.value.specs.declared.Word.{Word}
-use Rattle.value.specs.declared.Word.the-variants as W
-use Rattle.statement.specs.Values.{bytesInAll, listValue, asItem, item, Items, ended, further, itemsUpTo, tally}
+use Rattle.statement.specs.Values.{bytesInAll, item, Items, ended, further, itemsUpTo, tally}
 use Rattle.statement.specs.declared.values.Counted.{Counted}
 use Rattle.statement.specs.declared.values.Item.{Item}
 use Rattle.statement.specs.declared.values.Item.the-variants as I
@@ -72,33 +63,3 @@ module _ (n b : ℕ) (line : List ℕ) (kind : Kind) (i left : ℕ) where
         let z : n + 1 + l ≡ n + suc l = omega arith in
         let y : b + long + o ≡ b + (long + o) = omega arith in
         rw (turn line kind i left h, sym e, q, z, item-string kind line i s long k (sym e ∙ q) .2 .bytes, y)
-
--- ---- where a `)` stands
-
-closing : (t s : Bool) (i k : ℕ) (w : Word) → (if t then (if s then I.Close i else asItem w) else I.End) ≡ I.Close k → (t ≡ true) × (i ≡ k)
-closing true true i k w e = (refl, cc)
-closing true false i k (W.Number x n) e = let z : _≡_ {A = ℕ} 0 1 = cc in absurd (omega arith)
-closing true false i k (W.String a b n) e = let z : _≡_ {A = ℕ} 0 1 = cc in absurd (omega arith)
-closing true false i k (W.Fault q n) e = let z : _≡_ {A = ℕ} 0 1 = cc in absurd (omega arith)
-closing false s i k w e = let z : _≡_ {A = ℕ} 0 1 = cc in absurd (omega arith)
-
-item-closes : (kind : Kind) (line : List ℕ) (i k : ℕ) → item kind line i ≡ I.Close k → k < length line
-unfolding item
-item-closes kind line i k e =
-    let p = past separator line i in
-    let c = closing (ltb p (length line)) (stands CLOSE line p) p k (listValue kind line p) e in
-    omega (arith, ltb-true p (length line) (c .0), c .1)
-
--- the `)` that ends a list's values stands in the line
-pub closes-within : (n : ℕ) (line : List ℕ) (kind : Kind) (i k : ℕ) → itemsUpTo n line kind i .stop ≡ S.Close k → k < length line
-unfolding itemsUpTo
-closes-within zero line kind i k e = let z : _≡_ {A = ℕ} 0 1 = cc in absurd (omega arith)
-closes-within (suc n) line kind i k e = by (item kind line i) refl e (closes-within n line)
-  where
-    by : (m : Item) → item kind line i ≡ m → further kind line m (itemsUpTo n line) .stop ≡ S.Close k
-        → ((d : Kind) (j k : ℕ) → itemsUpTo n line d j .stop ≡ S.Close k → k < length line) → k < length line
-    by I.End q f r = let z : _≡_ {A = ℕ} 0 1 = cc in absurd (omega arith)
-    by (I.Close j) q f r = item-closes kind line i k (q ∙ cc)
-    by (I.Number x j) q f r = r K.Numbers j k f
-    by (I.String s l j) q f r = r K.Strings j k f
-    by (I.Fault w j) q f r = let z : _≡_ {A = ℕ} 0 1 = cc in absurd (omega arith)

@@ -9,3 +9,4 @@ pub mod Enough
 pub mod Names
 pub mod OneKind
 pub mod Events
+pub mod Pointed

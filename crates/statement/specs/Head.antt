@@ -18,14 +18,14 @@ use Rattle.statement.specs.declared.head.Operator.the-variants as O
 abbrev pub NAME : ℕ
 NAME = 32
 
--- a name from n to e, and its operator at i
+-- a name from n to e, and its operator at i: "18 to the first non-blank after the name (18 and 19 one past the line if nothing is there)"
 abbrev pub headOperated : List ℕ → (n e i : ℕ) → Head
 headOperated line n e i =
     if stands EQUALS line i then H.Named n e O.Direct (past blank line (i + 1))
     else (if stands PLUS line i && stands EQUALS line (i + 1) then H.Named n e O.Append (past blank line (i + 2))
     else H.Fault F.NoOperator i)
 
--- "Name: the longest run of letters, digits or underscores, 1 to 32 of them"
+-- "Name: the longest run of letters, digits or underscores, 1 to 32 of them", and "17 to the statement's first byte"
 abbrev pub headNamed : List ℕ → (n e : ℕ) → Head
 headNamed line n e = if within 1 NAME (e - n) then headOperated line n e (past blank line e) else H.Fault F.BadName n
 

@@ -40,7 +40,7 @@ admits K.Empty quote = true
 admits K.Numbers quote = not quote
 admits K.Strings quote = quote
 
--- "a second kind at its first value, and there before 6"
+-- "19 BAD VALUE (.. a second kind at its first value, and there before 6)"
 unfoldable pub listValue : Kind → List ℕ → ℕ → Word
 listValue kind line i = if admits kind (stands QUOTE line i) then valueAt line i else W.Fault F.BadValue i
 
@@ -49,7 +49,7 @@ asItem (W.Number x end) = I.Number x end
 asItem (W.String i n end) = I.String i n end
 asItem (W.Fault q k) = I.Fault q k
 
--- what a list has at place i: the line's end, its `)`, or a value. A second `(` is no value, and so a fault where it stands
+-- what a list has at place i: the line's end, its `)`, or a value. A second `(` is no value, and so 19 where it stands
 abbrev pub itemAt : Kind → List ℕ → ℕ → Item
 itemAt kind line i = if ltb i (length line) then (if stands CLOSE line i then I.Close i else asItem (listValue kind line i)) else I.End
 
@@ -95,11 +95,11 @@ pub data Given : Type 0 where
   given : Reader → List Value → Given
   wrong : Fault → (place : ℕ) → Given
 
--- "After the statement only blanks follow on its line."
+-- "After the statement only blanks follow on its line.", and "21 to the first stray byte"
 unfoldable pub rest : List Value → List ℕ → ℕ → Given
 rest vs line i = if ltb (past blank line i) (length line) then wrong F.RestOfLine (past blank line i) else given R.Data vs
 
--- a list's `)` at place k
+-- a list's `)` at place k: "20 points to the `)` of an empty list"
 abbrev pub shut : Kind → List Value → List ℕ → ℕ → Given
 shut K.Empty vs line k = wrong F.OpenList k
 shut K.Numbers vs line k = rest vs line (k + 1)

@@ -4,7 +4,7 @@ use mathlib.Core.Path.{_∙_}
 use borrow.Author.Needs.{needs}
 use lib.ListN.{length}
 use Rattle.statement.specs.Values.{items}
-use Rattle.statement.proofs.Items.{closes-within}
+use Rattle.statement.proofs.Pointed.{closes-within}
 use Rattle.statement.proofs.Lists.{as-many, as-long, same-stop, list-on, list-empty, list-numbers, list-strings, list-faulty}
 use Rattle.statement.proofs.values.list.Statement.{statement}
 use Rattle.statement.proofs.values.list.Tie as tie
@@ -28,7 +28,7 @@ add-rest : tie.Need-add-rest
 add-rest c =
     let a = c .before .before .before .before .before in
     let b = a .before .before .args in
-    omega (arith, closes-within (length (b .line .now)) (b .line .now) (b .kind) (b .at) _ (same-stop (b .kind) (b .line .now) (b .at) _ (a .count-items .ensures) ∙ c .before .before .before .stop .given .1))
+    omega (arith, closes-within (b .line .now) (length (b .line .now)) (b .kind) (b .at) _ (same-stop (b .kind) (b .line .now) (b .at) _ (a .count-items .ensures) ∙ c .before .before .before .stop .given .1))
 
 rest-requires : tie.Need-rest-requires
 rest-requires c κs = search needs
@@ -40,7 +40,7 @@ add-rest-2 : tie.Need-add-rest-2
 add-rest-2 c =
     let a = c .before .before .before .before .before in
     let b = a .before .before .args in
-    omega (arith, closes-within (length (b .line .now)) (b .line .now) (b .kind) (b .at) _ (same-stop (b .kind) (b .line .now) (b .at) _ (a .count-items .ensures) ∙ c .before .before .before .stop .given .1))
+    omega (arith, closes-within (b .line .now) (length (b .line .now)) (b .kind) (b .at) _ (same-stop (b .kind) (b .line .now) (b .at) _ (a .count-items .ensures) ∙ c .before .before .before .stop .given .1))
 
 rest-requires-2 : tie.Need-rest-requires-2
 rest-requires-2 c κs = search needs
