@@ -9,5 +9,6 @@ pub mod Tallies
 -- the definitions
 pub mod Passing
 pub mod FirstFault
+pub mod Columns
 pub mod Legal
 pub mod Counts

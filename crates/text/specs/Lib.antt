@@ -4,3 +4,4 @@ pub mod Delimiters
 pub mod Lengths
 pub mod Line
 pub mod Text
+pub mod Columns

@@ -41,13 +41,13 @@ stated line H.Blank = next R.Data []
 stated line (H.Named n e o i) = adding (opened (take (e - n) (drop n line)) o ∷ []) (givenAt line i)
 stated line (H.Fault q k) = fault q k
 
--- "Data lines hold bytes 32 to 126 and tabs only": the first that is none of them, before all else
+-- "Data lines hold bytes 32 to 126 and tabs only", and "4 points to the byte": the first that is none of them, before all else
 abbrev pub fairly : List ℕ → Outcome → Outcome
 fairly line o = if ltb (past fair line 0) (length line) then fault F.BadByte (past fair line 0) else o
 
 -- ---- any line
 
--- "A delimiter line inside an open list is SYNTAX there"
+-- a delimiter line inside an open list: "20 points .. to column 1 of a delimiter line"
 abbrev pub section : Reader → Reader → Outcome
 section R.Text r = next r []
 section R.Data r = next r []
@@ -64,7 +64,8 @@ marked M.Data r line = section r R.Data
 marked M.Text r line = section r R.Text
 marked M.Plain r line = plain r line
 
--- "3 is now given for a data or delimiter line over 132, and its place is unchanged": before all else of the line
+-- "3 is now given for a data or delimiter line over 132, and its place is unchanged": before all else of the line, and "for a line too long
+-- the column is 133"
 unfoldable pub answered : Reader → List ℕ → Outcome
 answered r line = if tooLong (markOf line) r (length line) then fault F.TooLong LONGEST-LINE else marked (markOf line) r line
 

@@ -17,7 +17,7 @@ pub data Read : Type 0 where
   fine : List Event → Read
   refused : Fault → (line place : ℕ) → Read
 
--- "end of text inside one is SYNTAX at the last line": after so many lines, the last one so long
+-- the end of the text inside a list: "20 points .. at the end of the text one past its last line", after so many lines, the last one so long
 abbrev pub finished : Reader → (number long : ℕ) → Read
 finished R.Text number long = fine []
 finished R.Data number long = fine []

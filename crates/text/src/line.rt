@@ -1,4 +1,5 @@
-// The answer to one line: document 01, "in it 3, then 4, then whichever of 5 and 6 starts at the earlier byte".
+// The answer to one line: document 01, "in it 3, then 4, then whichever of 5 and 6 starts at the earlier byte", 17 to 21 standing where 5
+// stood (document 02, K3).
 use crate::delimiters;
 use crate::delimiters::Mark;
 use crate::lengths;
