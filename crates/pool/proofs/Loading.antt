@@ -11,8 +11,11 @@ use Rattle.refusal.specs.declared.Refusal.{Refusal}
 use Rattle.refusal.specs.declared.Refusal.the-variants.{LabelHeld, TextTooLong, NoRoom, DamagedPool}
 use Rattle.value.specs.Faults.{refusalOf}
 use Rattle.statement.specs.Statements.{Event, openings, givings, bytesGiven}
+use Rattle.text.specs.Columns.{columnOf}
+use Rattle.text.specs.Lengths.{LONGEST-LINE}
 use Rattle.text.specs.Text.{Read, fine, refused, readText, tallied}
 use Rattle.text.specs.declared.Checked.the-variants as C
+use Rattle.text.proofs.Columns.{place-most}
 use Rattle.value.specs.declared.faults.Fault.{Fault}
 use Rattle.layout.specs.State.{Pool}
 use Rattle.layout.specs.Limits.{room, LONGEST-LOAD}
@@ -70,15 +73,19 @@ module _ (label : ℕ) (bytes : List ℕ) (s : Pool) where
 
 -- ---- the answers
 
+-- the first pass tells a place that has room for one more
+pub place-fits : (bytes : List ℕ) (q : Fault) (line place : ℕ) → tallied (readText bytes) ≡ C.Refused q line place → place ≤ LONGEST-LINE
+place-fits bytes q line place t = place-most bytes q line place (tallied-refused (readText bytes) q line place t)
+
 module _ (label : ℕ) (bytes m : List ℕ) where
   -- a refusal leaves the memory
-  refuses : (q : Refusal) (line : ℕ) → loadReply label bytes m ≡ Refused q line → Loads label bytes m (Refused q line) m
+  refuses : (q : Refusal) (line column : ℕ) → loadReply label bytes m ≡ Refused q line column → Loads label bytes m (Refused q line column) m
   unfolding loadMemory
-  refuses q line e = record { reply = sym e; memory = rw e }
+  refuses q line column e = record { reply = sym e; memory = rw e }
 
   pub damaged : sound m ≡ false → Loads label bytes m (refusing DamagedPool) m
   unfolding loadReply
-  damaged e = refuses DamagedPool 0 (rw e)
+  damaged e = refuses DamagedPool 0 0 (rw e)
 
   module _ (e : sound m ≡ true) where
     undamaged : loadReply label bytes m ≡ loadAnswer label bytes (decode m)
@@ -86,26 +93,26 @@ module _ (label : ℕ) (bytes m : List ℕ) where
     undamaged = rw e
 
     pub label-held : held label (decode m) ≡ true → Loads label bytes m (refusing LabelHeld) m
-    label-held h = refuses LabelHeld 0 (undamaged ∙ label-asked label bytes (decode m) h)
+    label-held h = refuses LabelHeld 0 0 (undamaged ∙ label-asked label bytes (decode m) h)
 
     module _ (h : held label (decode m) ≡ false) where
       pub too-long : LONGEST-LOAD < length bytes → Loads label bytes m (refusing TextTooLong) m
-      too-long l = refuses TextTooLong 0 (undamaged ∙ length-asked label bytes (decode m) h (lt-ltb LONGEST-LOAD (length bytes) l))
+      too-long l = refuses TextTooLong 0 0 (undamaged ∙ length-asked label bytes (decode m) h (lt-ltb LONGEST-LOAD (length bytes) l))
 
       module _ (l : length bytes ≤ LONGEST-LOAD) where
         -- by the first pass and the room
         answers : loadReply label bytes m ≡ admitted (readText bytes) (room (with (decode m) (textOf label bytes)))
         answers = undamaged ∙ text-asked label bytes (decode m) h (le-ltb LONGEST-LOAD (length bytes) l)
 
-        pub faulty : (q : Fault) (line place : ℕ) → tallied (readText bytes) ≡ C.Refused q line place → Loads label bytes m (Refused (refusalOf q) line) m
-        faulty q line place t = refuses (refusalOf q) line (answers ∙ ap (λ (x : Read). admitted x (room (with (decode m) (textOf label bytes)))) (tallied-refused (readText bytes) q line place t))
+        pub faulty : (q : Fault) (line place : ℕ) → tallied (readText bytes) ≡ C.Refused q line place → Loads label bytes m (Refused (refusalOf q) line (columnOf place)) m
+        faulty q line place t = refuses (refusalOf q) line (columnOf place) (answers ∙ ap (λ (x : Read). admitted x (room (with (decode m) (textOf label bytes)))) (tallied-refused (readText bytes) q line place t))
 
         module _ (n k b : ℕ) (t : tallied (readText bytes) ≡ C.Admitted n k b) (y : Bool) (r : y ≡ room (with (decode m) (textOf label bytes))) where
           read : Admitted (readText bytes) n k b
           read = tallied-admitted (readText bytes) n k b t
 
           pub no-room : y ≡ false → Loads label bytes m (refusing NoRoom) m
-          no-room f = refuses NoRoom 0 (answers ∙ (λ i. admitted (read .reads i) ((sym r ∙ f) i)))
+          no-room f = refuses NoRoom 0 0 (answers ∙ (λ i. admitted (read .reads i) ((sym r ∙ f) i)))
 
           pub accepts : y ≡ true → Accepts label bytes n k b m
           accepts f = record {

@@ -1,5 +1,6 @@
 -- "A text is accepted exactly when its label is not held, the rules admit it and the undamaged pool has room." "Order: 15 first; then by
--- call 1, 2, the first faulty line (in it 3, then 4, then whichever of 5 and 6 starts at the earlier byte), 7". Definitions only.
+-- call 1, 2, the first faulty line (in it 3, then 4, then whichever of 5 and 6 starts at the earlier byte), 7"; 17 to 21 "stand where 5 stood".
+-- Definitions only.
 use Prim.Native.Nat.{ℕ, _≤_}
 use mathlib.Core.Path.{_≡_}
 use mathlib.Core.Bool.{Bool, true, false}
@@ -10,6 +11,7 @@ use Rattle.plain.specs.Choice.{if_then_else_}
 use Rattle.refusal.specs.declared.Refusal.the-variants.{LabelHeld, TextTooLong, NoRoom, DamagedPool}
 use Rattle.value.specs.Faults.{refusalOf}
 use Rattle.statement.specs.Statements.{Event, statements, openings, givings, bytesGiven}
+use Rattle.text.specs.Columns.{columnOf}
 use Rattle.text.specs.Text.{Read, fine, refused, readText, added}
 use Rattle.layout.specs.State.{Text, Pool, flat, valuesOf, bytesOf}
 use Rattle.layout.specs.Limits.{room, LONGEST-LOAD}
@@ -42,7 +44,7 @@ pub record Counted (t : Text) (statements values spelled : ℕ) : Type 0 where
 abbrev pub admitted : Read → (room : Bool) → Reply
 admitted (fine es) true = Done
 admitted (fine es) false = refusing NoRoom
-admitted (refused q line place) room = Refused (refusalOf q) line
+admitted (refused q line place) room = Refused (refusalOf q) line (columnOf place)
 
 -- on the state
 unfoldable pub loadAnswer : (label : ℕ) (bytes : List ℕ) → Pool → Reply

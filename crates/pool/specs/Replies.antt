@@ -1,5 +1,6 @@
 -- "Success is number 0 with line 0, and fetch also tells the count (0 when refused). A refusal returns its number, for 3 to 6 the line
--- (0 for all others), and no values; pool and buffers keep every byte." Definitions only.
+-- (0 for all others), and no values; pool and buffers keep every byte." "give the column, counted from 1, beside the line for 3 to 6 and all
+-- the new ones." Definitions only.
 use Prim.Native.Nat.{ℕ}
 use mathlib.Core.Bool.{Bool, true, false}
 use Rattle.refusal.specs.Numbers.{SUCCESS, numberOf}
@@ -15,19 +16,23 @@ use Rattle.pool.specs.declared.reply.Counts.the-variants as C
 
 abbrev pub replyNumber : Reply → ℕ
 replyNumber R.Done = SUCCESS
-replyNumber (R.Refused q line) = numberOf q
+replyNumber (R.Refused q line column) = numberOf q
 
 abbrev pub replyLine : Reply → ℕ
 replyLine R.Done = 0
-replyLine (R.Refused q line) = line
+replyLine (R.Refused q line column) = line
+
+abbrev pub replyColumn : Reply → ℕ
+replyColumn R.Done = 0
+replyColumn (R.Refused q line column) = column
 
 abbrev pub done : Reply → Bool
 done R.Done = true
-done (R.Refused q line) = false
+done (R.Refused q line column) = false
 
--- a refusal that has no line
+-- a refusal that has no line and no column
 abbrev pub refusing : Refusal → Reply
-refusing q = R.Refused q 0
+refusing q = R.Refused q 0 0
 
 -- ---- fetch
 

@@ -14,7 +14,7 @@ pub fn make_empty(pool: &mut [u64]) -> Reply
     ensures { λ r. ⌜ Empties (now (pool .entry)) r (now (pool .exit)) ⌝ }
 {
     if pool.len() != WORDS {
-        return Reply::Refused(Refusal::DamagedPool, 0);
+        return Reply::Refused(Refusal::DamagedPool, 0, 0);
     }
     hold_nothing(pool);
     Reply::Done
@@ -25,7 +25,7 @@ pub fn clear(pool: &mut [u64]) -> Reply
     ensures { λ r. ⌜ Clears (now (pool .entry)) r (now (pool .exit)) ⌝ }
 {
     if !is_sound(pool) {
-        return Reply::Refused(Refusal::DamagedPool, 0);
+        return Reply::Refused(Refusal::DamagedPool, 0, 0);
     }
     hold_nothing(pool);
     Reply::Done

@@ -37,24 +37,26 @@ pub fn load(pool: &mut [u64], label: u32, text: &[u8]) -> Reply
     ensures { λ r. ⌜ Loads label (now (text .entry)) (now (pool .entry)) r (now (pool .exit)) ⌝ }
 {
     if !is_sound(pool) {
-        return Reply::Refused(Refusal::DamagedPool, 0);
+        return Reply::Refused(Refusal::DamagedPool, 0, 0);
     }
     if is_held(pool, label) {
-        return Reply::Refused(Refusal::LabelHeld, 0);
+        return Reply::Refused(Refusal::LabelHeld, 0, 0);
     }
     if LONGEST_LOAD < text.len() {
-        return Reply::Refused(Refusal::TextTooLong, 0);
+        return Reply::Refused(Refusal::TextTooLong, 0, 0);
     }
     let checked = check(text);
     match checked {
         Checked::Admitted(statements, values, bytes) => {
             if !has_room(pool, statements, values, bytes) {
-                return Reply::Refused(Refusal::NoRoom, 0);
+                return Reply::Refused(Refusal::NoRoom, 0, 0);
             }
             add(pool, label, text, statements, values, bytes);
             Reply::Done
         }
-        Checked::Refused(fault, line, _) => Reply::Refused(refusal_of(fault), line),
+        Checked::Refused(fault, line, place) => {
+            Reply::Refused(refusal_of(fault), line, place + 1)
+        }
     }
 }
 

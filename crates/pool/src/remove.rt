@@ -12,11 +12,11 @@ pub fn remove(pool: &mut [u64], label: u32) -> Reply
     ensures { λ r. ⌜ Removes label (now (pool .entry)) r (now (pool .exit)) ⌝ }
 {
     if !is_sound(pool) {
-        return Reply::Refused(Refusal::DamagedPool, 0);
+        return Reply::Refused(Refusal::DamagedPool, 0, 0);
     }
     let place = place_of(texts_of(pool), label as u64);
     if pool[TEXT_COUNT] as usize <= place {
-        return Reply::Refused(Refusal::NotHeld, 0);
+        return Reply::Refused(Refusal::NotHeld, 0, 0);
     }
     take_out(pool, place);
     Reply::Done

@@ -1,10 +1,10 @@
 // What the calls on a pool answer.
 use refusal::Refusal;
 
-// The answer of a call that changes the pool. The line is that of a fault in a text, and 0 otherwise.
+// The answer of a call that changes the pool. The line and the column are those of a fault in a text, and 0 otherwise.
 pub enum Reply {
     Done,
-    Refused(Refusal, usize),
+    Refused(Refusal, usize, usize),
 }
 
 // The answer of a fetch: how many values were written, or how many bytes of a string.

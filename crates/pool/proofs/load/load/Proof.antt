@@ -3,13 +3,14 @@ use Prim.Native.Nat.{ℕ}
 use mathlib.Core.Path.{_≡_, sym, _∙_}
 use mathlib.Core.Bool.{true, false}
 use mathlib.Core.List.{List}
+use native.Mathlib.Omega.{arith}
 use borrow.Author.Needs.{needs}
 use borrow.Author.Tests.{not-true, not-false}
 use Rattle.layout.specs.Memory.{decode}
 use Rattle.layout.specs.Damage.{sound}
 use Rattle.layout.proofs.Sound.{sound-of}
 use Rattle.pool.specs.Load.{held}
-use Rattle.pool.proofs.Loading.{text-counted, damaged, label-held, too-long, faulty, no-room, accepts, done}
+use Rattle.pool.proofs.Loading.{text-counted, damaged, label-held, too-long, faulty, no-room, accepts, done, place-fits}
 use Rattle.pool.proofs.load.load.Statement.{statement}
 use Rattle.pool.proofs.load.load.Tie as tie
 
@@ -82,6 +83,13 @@ enum-known-checked-2 c = search needs
 refusal-of-requires : tie.Need-refusal-of-requires
 refusal-of-requires c κs = search needs
 
+-- the place of a fault is at most 132
+add-t32 : tie.Need-add-t32
+add-t32 c =
+    let a = c .before .before .before .before in
+    let most = place-fits _ _ _ _ (sym (a .check .ensures) ∙ c .before .before .checked2 .given .1) in
+    omega arith
+
 same-length-5 : tie.Need-same-length-5
 same-length-5 c = search needs
 
@@ -122,6 +130,7 @@ load-spec =
     add-requires
     enum-known-checked-2
     refusal-of-requires
+    add-t32
     same-length-5
     returns-5
     same-length-6
