@@ -1,13 +1,12 @@
 -- What the calls leave and answer is what the listing is made of: an empty pool into which the text is loaded. Assumes nothing.
 use mathlib.Core.Path.{_≡_, refl, sym, ap, ap₂, subst, _∙_}
 use mathlib.Core.Bool.{Bool, true}
-use mathlib.Core.List.{List, [], _∷_, _++_}
+use mathlib.Core.List.{List, []}
 use Prim.Native.Nat.{ℕ, _+_, _≤_}
 use native.Mathlib.Nat.{zero-add}
 use native.Mathlib.Omega.{arith}
 use borrow.Author.Tests.{eq-eqb}
 use lib.ListN.{length, replicate, length-replicate}
-use Rattle.plain.specs.Bytes.{SPACE}
 use Rattle.plain.specs.Choice.{if_then_else_}
 use Rattle.refusal.specs.Numbers.{numberOf}
 use Rattle.refusal.specs.declared.Refusal.{Refusal}
@@ -26,10 +25,9 @@ use Rattle.pool.specs.declared.reply.Reply.{Reply}
 use Rattle.pool.specs.declared.reply.Reply.the-variants.{Done, Refused}
 use Rattle.pool.proofs.Emptying.{empty-sound, empty-decode}
 use Rattle.pool.proofs.Loaded.{load-sound, load-decode}
-use Rattle.pen.specs.Pen.{phrase, entry}
 use Rattle.shown.specs.Shown.{shown}
 use Rattle.shown.specs.Shows.{Showing}
-use Rattle.listing.specs.Listing.{LABEL, LINE, REFUSED, loaded, told, listing}
+use Rattle.listing.specs.Listing.{LABEL, refusalLine, loaded, told, listing}
 use Rattle.listing.specs.Lists.{SIZE, Lists}
 use Rattle.listing.proofs.Longest.{shown-fits, refusal-fits}
 
@@ -80,17 +78,17 @@ module _ (text first empty memory : List ℕ) (made reply : Reply) (n : WORDS �
 
   -- ---- and another is refused
 
-  module _ (q : Refusal) (line : ℕ) (d : reply ≡ Refused q line) (number : ℕ) (e : number ≡ numberOf q) where
-    is-refused : phrase REFUSED number ++ (SPACE ∷ entry LINE line) ≡ listing text
+  module _ (q : Refusal) (line column : ℕ) (d : reply ≡ Refused q line column) (number : ℕ) (e : number ≡ numberOf q) where
+    is-refused : refusalLine number line column ≡ listing text
     unfolding listing
     is-refused =
-        ap (λ (n : ℕ). phrase REFUSED n ++ (SPACE ∷ entry LINE line)) e ∙ ap (λ (r : Reply). told r (loaded text)) (sym d ∙ answered)
+        ap (λ (n : ℕ). refusalLine n line column) e ∙ ap (λ (r : Reply). told r (loaded text)) (sym d ∙ answered)
 
-    pub lists-refused : (out : List ℕ) (r : ℕ) (after : List ℕ) → Writes 0 (phrase REFUSED number ++ (SPACE ∷ entry LINE line)) out r after → Lists text out r after
+    pub lists-refused : (out : List ℕ) (r : ℕ) (after : List ℕ) → Writes 0 (refusalLine number line column) out r after → Lists text out r after
     lists-refused out r after w = lists is-refused w
 
-pub room-refusal : (number line : ℕ) (out : List ℕ) → length out ≡ SIZE → Room 0 (phrase REFUSED number ++ (SPACE ∷ entry LINE line)) out
-room-refusal number line out l = record { fits = omega (arith, refusal-fits number line) }
+pub room-refusal : (number line column : ℕ) (out : List ℕ) → length out ≡ SIZE → Room 0 (refusalLine number line column) out
+room-refusal number line column out l = record { fits = omega (arith, refusal-fits number line column) }
 
 -- ---- so every listing has room
 
@@ -119,5 +117,5 @@ listing-fits text = by (loadReply LABEL text empty) refl
     by Done d =
         subst (λ (l : List ℕ). length l ≤ SIZE) (is-shown text first empty memory _ _ n E L d)
         (shown-fits memory (sound-of memory (undamaged text first empty memory _ _ n E L)))
-    by (Refused q line) d =
-        subst (λ (l : List ℕ). length l ≤ SIZE) (is-refused text first empty memory _ _ n E L q line d (numberOf q) refl) (refusal-fits (numberOf q) line)
+    by (Refused q line column) d =
+        subst (λ (l : List ℕ). length l ≤ SIZE) (is-refused text first empty memory _ _ n E L q line column d (numberOf q) refl) (refusal-fits (numberOf q) line column)

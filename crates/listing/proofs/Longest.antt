@@ -23,7 +23,7 @@ use Rattle.pen.proofs.Lengths.{length-decimalUpTo, length-entry, length-digits,
 use Rattle.order.proofs.Rising.{each-names, length-names}
 use Rattle.shown.specs.Shown.{VARIABLES, VALUES, namesIn, valuesOf, counts, valueLine, valueLines, shown}
 use Rattle.shown.proofs.Together.{own, lines-none, lines-append, together-few}
-use Rattle.listing.specs.Listing.{LINE, REFUSED}
+use Rattle.listing.specs.Listing.{REFUSED, LINE, COLUMN, position, refusalLine}
 use Rattle.listing.specs.Lists.{SIZE}
 
 -- ---- the lines of values: seventeen bytes a line, and two more for each byte of a string
@@ -104,12 +104,15 @@ shown-fits m S =
     let j = decode-fits m S in
     omega (arith, a, b, c, d, e, f, g, h, j .statements, j .values, j .bytes)
 
-pub refusal-fits : (n line : ℕ) → length (phrase REFUSED n ++ (SPACE ∷ entry LINE line)) ≤ SIZE
-refusal-fits n line =
+pub refusal-fits : (n line column : ℕ) → length (refusalLine n line column) ≤ SIZE
+refusal-fits n line column =
     omega (
       arith,
-      length-append (phrase REFUSED n) (SPACE ∷ entry LINE line),
+      length-append (phrase REFUSED n) (SPACE ∷ position line column),
       length-append REFUSED (SPACE ∷ decimal n),
       length-decimalUpTo 20 n,
-      length-entry LINE line,
+      length-append (phrase LINE line) (SPACE ∷ entry COLUMN column),
+      length-append LINE (SPACE ∷ decimal line),
+      length-decimalUpTo 20 line,
+      length-entry COLUMN column,
     )

@@ -43,7 +43,7 @@ cast-write-refusal : tie.Need-cast-write-refusal
 cast-write-refusal c = search needs
 
 write-refusal-requires : tie.Need-write-refusal-requires
-write-refusal-requires c κs = room-refusal _ _ _ (omega arith)
+write-refusal-requires c κs = room-refusal _ _ _ _ (omega arith)
 
 returns : tie.Need-returns
 returns c =
@@ -58,7 +58,7 @@ returns-2 c =
     let l = r .before .before .before in
     let e = l .before .before .before in
     let m = e .before .before in
-    lists-refused _ _ _ _ _ _ (m .no-memory .ensures) (e .make-empty .ensures) (l .load .ensures) _ _ (r .reply .given .1) _ (c .before .number .ensures) _ _ _ (c .write-refusal .ensures)
+    lists-refused _ _ _ _ _ _ (m .no-memory .ensures) (e .make-empty .ensures) (l .load .ensures) _ _ _ (r .reply .given .1) _ (c .before .number .ensures) _ _ _ (c .write-refusal .ensures)
 
 pub list-spec : {M : Type 1} → statement M
 list-spec =

@@ -1,9 +1,9 @@
--- `write_refusal` meets its contract: the number, a space and the line are written one after the other. Assumes nothing.
+-- `write_refusal` meets its contract: the number, a space and the position are written one after the other. Assumes nothing.
 use borrow.Author.Needs.{needs}
 use Rattle.plain.specs.Bytes.{SPACE}
-use Rattle.pen.specs.Pen.{phrase, entry}
+use Rattle.pen.specs.Pen.{phrase}
 use Rattle.pen.proofs.Between.{room-before, room-between, room-after, writes-three}
-use Rattle.listing.specs.Listing.{REFUSED, LINE}
+use Rattle.listing.specs.Listing.{REFUSED, position}
 use Rattle.listing.proofs.list.write_refusal.Statement.{statement}
 use Rattle.listing.proofs.list.write_refusal.Tie as tie
 
@@ -13,23 +13,20 @@ slice-aggregate-write-phrase c = search needs
 write-phrase-requires : tie.Need-write-phrase-requires
 write-phrase-requires c κs =
     let s = c .before .before .before in
-    room-before (phrase REFUSED (s .args .number)) SPACE (entry LINE (s .args .line)) (s .pre)
+    room-before (phrase REFUSED (s .args .number)) SPACE (position (s .args .line) (s .args .column)) (s .pre)
 
 write-byte-requires : tie.Need-write-byte-requires
 write-byte-requires c κs =
     let p = c .before .before .before in
     let s = p .before .before .before .before in
-    room-between (phrase REFUSED (s .args .number)) SPACE (entry LINE (s .args .line)) (p .write-phrase .ensures) (s .pre)
+    room-between (phrase REFUSED (s .args .number)) SPACE (position (s .args .line) (s .args .column)) (p .write-phrase .ensures) (s .pre)
 
-slice-aggregate-write-entry : tie.Need-slice-aggregate-write-entry
-slice-aggregate-write-entry c = search needs
-
-write-entry-requires : tie.Need-write-entry-requires
-write-entry-requires c κs =
-    let b = c .before .before .before .before in
+write-position-requires : tie.Need-write-position-requires
+write-position-requires c κs =
+    let b = c .before .before .before in
     let p = b .before .before .before .before in
     let s = p .before .before .before .before in
-    room-after (phrase REFUSED (s .args .number)) SPACE (entry LINE (s .args .line)) (p .write-phrase .ensures) (b .write-byte .ensures) (s .pre)
+    room-after (phrase REFUSED (s .args .number)) SPACE (position (s .args .line) (s .args .column)) (p .write-phrase .ensures) (b .write-byte .ensures) (s .pre)
 
 same-length : tie.Need-same-length
 same-length c = search needs
@@ -37,10 +34,10 @@ same-length c = search needs
 returns : tie.Need-returns
 returns c =
     let e = c .before .before in
-    let b = e .before .before .before .before .before in
+    let b = e .before .before .before .before in
     let p = b .before .before .before .before in
     let s = p .before .before .before .before in
-    writes-three (phrase REFUSED (s .args .number)) SPACE (entry LINE (s .args .line)) (p .write-phrase .ensures) (b .write-byte .ensures) (e .write-entry .ensures)
+    writes-three (phrase REFUSED (s .args .number)) SPACE (position (s .args .line) (s .args .column)) (p .write-phrase .ensures) (b .write-byte .ensures) (e .write-position .ensures)
 
 pub write-refusal-spec : {M : Type 1} → statement M
 write-refusal-spec =
@@ -49,7 +46,6 @@ write-refusal-spec =
     slice-aggregate-write-phrase
     write-phrase-requires
     write-byte-requires
-    slice-aggregate-write-entry
-    write-entry-requires
+    write-position-requires
     same-length
     returns)
