@@ -1,4 +1,4 @@
--- Thirty-two bits lose nothing: a line is one of a text of at most 65,536 bytes, a count is one of at most 3,072 held values or of a string's
+-- Thirty-two bits lose nothing: a line is one of a text of at most 65,536 bytes, a column is at most 133, a count is one of at most 3,072 held values or of a string's
 -- at most 60 bytes, so each is its own remainder. Assumes nothing.
 use mathlib.Core.Path.{_≡_, refl, sym, _∙_}
 use mathlib.Core.Bool.{Bool, true, false, _&&_}
@@ -16,6 +16,7 @@ use Rattle.value.specs.Strings.{STRING}
 use Rattle.statement.specs.Statements.{Values, numbers, strings, Statement}
 use Rattle.text.specs.Text.{Read, fine, refused, readText}
 use Rattle.text.proofs.FirstFault.{number-within}
+use Rattle.text.proofs.Columns.{place-most}
 use Rattle.plain.proofs.Each.{Each, each-append}
 use Rattle.layout.specs.State.{Pool, program, flat, wordsOf, valuesOf, values}
 use Rattle.layout.specs.Limits.{TEXTS, STATEMENTS, VALUES, room, LONGEST-LOAD}
@@ -24,10 +25,11 @@ use Rattle.layout.specs.Damage.{sized, sound}
 use Rattle.layout.proofs.Sound.{sound-of}
 use Rattle.layout.proofs.Legal.{Fair, FairValues}
 use Rattle.layout.proofs.Holds.{decode-fits, decode-legal}
-use Rattle.refusal.specs.declared.Refusal.the-variants.{LabelHeld, TextTooLong, NotHeld, DamagedPool}
+use Rattle.refusal.specs.declared.Refusal.{Refusal}
+use Rattle.refusal.specs.declared.Refusal.the-variants.{LabelHeld, TextTooLong, NoRoom, NotHeld, DamagedPool}
 use Rattle.pool.specs.Empty.{emptyReply, clearReply}
 use Rattle.pool.specs.Remove.{removeReply}
-use Rattle.pool.specs.Replies.{replyLine, refusing, fetchedCount, countsTexts, countsStatements, countsValues}
+use Rattle.pool.specs.Replies.{replyLine, replyColumn, refusing, fetchedCount, countsTexts, countsStatements, countsValues}
 use Rattle.pool.specs.Totals.{counts, totalsReply}
 use Rattle.pool.specs.declared.reply.Reply.{Reply}
 use Rattle.pool.specs.declared.reply.Reply.the-variants.{Done}
@@ -43,7 +45,7 @@ use Rattle.variables.specs.declared.variable.Found.the-variants as W
 use Rattle.globe_c.specs.Faces.{narrow}
 use Rattle.globe_c.specs.Narrow.{WholeReply, LosesNothing}
 
--- ---- lines
+-- ---- lines and columns
 
 -- a text has no more lines than bytes
 lines-few : (bs : List ℕ) → length (lines bs) ≤ length bs
@@ -58,21 +60,36 @@ lines-few (b ∷ bs) = by (eqb b LF) (eqb b CR && atLF bs) (lines bs) (lines-few
     by false false [] h = omega arith
     by false false (l ∷ ls) h = omega arith
 
-line-admitted : (bytes : List ℕ) (r : Read) (roomy : Bool) → readText bytes ≡ r → length bytes ≤ LONGEST-LOAD → replyLine (admitted r roomy) ≤ LONGEST-LOAD
-line-admitted bytes (fine es) true e h = omega arith
-line-admitted bytes (fine es) false e h = omega arith
-line-admitted bytes (refused q line place) roomy e h = omega (arith, number-within bytes q line place e .1, lines-few bytes)
+-- a reply whose line and column are few
+record Few (reply : Reply) : Type 0 where
+  line : replyLine reply ≤ LONGEST-LOAD
+  column : replyColumn reply ≤ LONGEST-LOAD
 
-line-few : (label : ℕ) (bytes m : List ℕ) → replyLine (loadReply label bytes m) ≤ LONGEST-LOAD
+few-done : Few Done
+few-done = record { line = omega arith; column = omega arith }
+
+few-refusing : (q : Refusal) → Few (refusing q)
+few-refusing q = record { line = omega arith; column = omega arith }
+
+few-admitted : (bytes : List ℕ) (r : Read) (roomy : Bool) → readText bytes ≡ r → length bytes ≤ LONGEST-LOAD → Few (admitted r roomy)
+few-admitted bytes (fine es) true e h = few-done
+few-admitted bytes (fine es) false e h = few-refusing NoRoom
+few-admitted bytes (refused q line place) roomy e h =
+    record {
+      line = omega (arith, number-within bytes q line place e .1, lines-few bytes);
+      column = omega (arith, place-most bytes q line place e);
+    }
+
+few-load : (label : ℕ) (bytes m : List ℕ) → Few (loadReply label bytes m)
 unfolding loadReply loadAnswer
-line-few label bytes m = by (sound m) (held label (decode m)) (ltb LONGEST-LOAD (length bytes)) refl
+few-load label bytes m = by (sound m) (held label (decode m)) (ltb LONGEST-LOAD (length bytes)) refl
   where
     by : (x y z : Bool) → ltb LONGEST-LOAD (length bytes) ≡ z
-        → replyLine (if x then (if y then refusing LabelHeld else (if z then refusing TextTooLong else admitted (readText bytes) (room (with (decode m) (textOf label bytes))))) else refusing DamagedPool) ≤ LONGEST-LOAD
-    by true true z e = omega arith
-    by true false true e = omega arith
-    by true false false e = line-admitted bytes (readText bytes) (room (with (decode m) (textOf label bytes))) refl (ltb-false LONGEST-LOAD (length bytes) e)
-    by false y z e = omega arith
+        → Few (if x then (if y then refusing LabelHeld else (if z then refusing TextTooLong else admitted (readText bytes) (room (with (decode m) (textOf label bytes))))) else refusing DamagedPool)
+    by true true z e = few-refusing LabelHeld
+    by true false true e = few-refusing TextTooLong
+    by true false false e = few-admitted bytes (readText bytes) (room (with (decode m) (textOf label bytes))) refl (ltb-false LONGEST-LOAD (length bytes) e)
+    by false y z e = few-refusing DamagedPool
 
 -- ---- counts
 
@@ -185,27 +202,28 @@ totals-few m = by (sound m) refl
 narrow-itself : (n : ℕ) → n ≤ LONGEST-LOAD → narrow n ≡ n
 narrow-itself n h = mod-eq-of-lt (omega arith)
 
-whole-reply : (reply : Reply) → replyLine reply ≤ LONGEST-LOAD → WholeReply reply
-whole-reply reply h = record { number = refl; line = narrow-itself (replyLine reply) h }
+whole-reply : (reply : Reply) → Few reply → WholeReply reply
+whole-reply reply f = record { number = refl; line = narrow-itself (replyLine reply) (f .line); column = narrow-itself (replyColumn reply) (f .column) }
 
 -- of a call that reads no text, neither the reply nor 15 has a line
-no-line : (x : Bool) (reply : Reply) → replyLine reply ≡ 0 → WholeReply (if x then reply else refusing DamagedPool)
-no-line true reply e = whole-reply reply (omega arith)
-no-line false reply e = whole-reply (refusing DamagedPool) (omega arith)
+no-line : (x : Bool) (reply : Reply) → Few reply → WholeReply (if x then reply else refusing DamagedPool)
+no-line true reply f = whole-reply reply f
+no-line false reply f = whole-reply (refusing DamagedPool) (few-refusing DamagedPool)
 
 pub loses-nothing : LosesNothing
 unfolding emptyReply clearReply removeReply
 loses-nothing =
     record {
-      makeEmpty = λ m. no-line (sized m) Done refl;
-      load = λ label bytes m. whole-reply (loadReply label bytes m) (line-few label bytes m);
+      makeEmpty = λ m. no-line (sized m) Done few-done;
+      load = λ label bytes m. whole-reply (loadReply label bytes m) (few-load label bytes m);
       remove = λ label m. removed (sound m) (held label (decode m));
-      clear = λ m. no-line (sound m) Done refl;
-      fetch = λ name room m. record { number = refl; line = refl; count = narrow-itself _ (omega (arith, count-few name room m)) };
-      fetchString = λ name place room m. record { number = refl; line = refl; count = narrow-itself _ (omega (arith, string-few name place room m)) };
+      clear = λ m. no-line (sound m) Done few-done;
+      fetch = λ name room m. record { number = refl; line = refl; column = refl; count = narrow-itself _ (omega (arith, count-few name room m)) };
+      fetchString = λ name place room m. record { number = refl; line = refl; column = refl; count = narrow-itself _ (omega (arith, string-few name place room m)) };
       totals = λ m. let t = totals-few m in record {
         number = refl;
         line = refl;
+        column = refl;
         texts = narrow-itself _ (omega (arith, t .0));
         statements = narrow-itself _ (omega (arith, t .1));
         values = narrow-itself _ (omega (arith, t .2));
@@ -213,5 +231,5 @@ loses-nothing =
     }
   where
     removed : (x y : Bool) → WholeReply (if x then (if y then Done else refusing NotHeld) else refusing DamagedPool)
-    removed x true = no-line x Done refl
-    removed x false = no-line x (refusing NotHeld) refl
+    removed x true = no-line x Done few-done
+    removed x false = no-line x (refusing NotHeld) (few-refusing NotHeld)

@@ -9,7 +9,7 @@ use Rattle.rotation.specs.declared.matrix.Oriented.{Oriented}
 use Rattle.rotation.specs.declared.matrix.Oriented.the-variants as O
 use Rattle.rotation.specs.declared.table.Radii.{Radii}
 use Rattle.rotation.specs.declared.table.Radii.the-variants as A
-use Rattle.pool.specs.Replies.{replyNumber, replyLine, fetchedNumber, fetchedCount, countsNumber, countsTexts, countsStatements, countsValues}
+use Rattle.pool.specs.Replies.{replyNumber, replyLine, replyColumn, fetchedNumber, fetchedCount, countsNumber, countsTexts, countsStatements, countsValues}
 use Rattle.pool.specs.declared.reply.Reply.{Reply}
 use Rattle.pool.specs.declared.reply.Fetched.{Fetched}
 use Rattle.pool.specs.declared.reply.Counts.{Counts}
@@ -19,21 +19,22 @@ use Rattle.globe_c.specs.declared.face.GlobeCounts.{GlobeCounts}
 use Rattle.globe_c.specs.declared.face.GlobeOriented.{GlobeOriented}
 use Rattle.globe_c.specs.declared.face.GlobeAxes.{GlobeAxes}
 
--- a line or a count in 32 bits; that nothing is lost is `LosesNothing`
+-- a line, a column or a count in 32 bits; that nothing is lost is `LosesNothing`
 abbrev pub narrow : ℕ → ℕ
 narrow n = n % 4294967296
 
 abbrev pub replyFace : Reply → GlobeReply
-replyFace r = record { number = replyNumber r; line = narrow (replyLine r) }
+replyFace r = record { number = replyNumber r; line = narrow (replyLine r); column = narrow (replyColumn r) }
 
 abbrev pub fetchedFace : Fetched → GlobeFetched
-fetchedFace r = record { number = fetchedNumber r; line = 0; count = narrow (fetchedCount r) }
+fetchedFace r = record { number = fetchedNumber r; line = 0; column = 0; count = narrow (fetchedCount r) }
 
 abbrev pub countsFace : Counts → GlobeCounts
 countsFace r =
     record {
       number = countsNumber r;
       line = 0;
+      column = 0;
       texts = narrow (countsTexts r);
       statements = narrow (countsStatements r);
       values = narrow (countsValues r);
@@ -44,6 +45,7 @@ orientedFace (O.Given o) =
     record {
       number = SUCCESS;
       line = 0;
+      column = 0;
       ra = o .ra;
       dec = o .dec;
       w = o .w;
@@ -61,6 +63,7 @@ orientedFace (O.Refused q) =
     record {
       number = numberOf q;
       line = 0;
+      column = 0;
       ra = nought;
       dec = nought;
       w = nought;
@@ -76,8 +79,8 @@ orientedFace (O.Refused q) =
     }
 
 unfoldable pub axesFace : Radii → GlobeAxes
-axesFace (A.Given x) = record { number = SUCCESS; line = 0; a = x .a; b = x .b; c = x .c }
-axesFace (A.Refused q) = record { number = numberOf q; line = 0; a = nought; b = nought; c = nought }
+axesFace (A.Given x) = record { number = SUCCESS; line = 0; column = 0; a = x .a; b = x .b; c = x .c }
+axesFace (A.Refused q) = record { number = numberOf q; line = 0; column = 0; a = nought; b = nought; c = nought }
 
 -- the whole contract of a call that changes the pool: its reply and the memory that it leaves
 pub record Changes (reply : Reply) (memory : List ℕ) (r : GlobeReply) (after : List ℕ) : Type 0 where

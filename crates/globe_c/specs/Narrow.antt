@@ -1,4 +1,4 @@
--- The C structures lose nothing of an answer: its line, count or totals are in 32 bits what they are. Definitions only.
+-- The C structures lose nothing of an answer: its line, column, count or totals are in 32 bits what they are. Definitions only.
 use Prim.Native.Nat.{ℕ}
 use mathlib.Core.Path.{_≡_}
 use mathlib.Core.List.{List}
@@ -8,7 +8,7 @@ use Rattle.pool.specs.Remove.{removeReply}
 use Rattle.pool.specs.Fetch.{fetchReply}
 use Rattle.pool.specs.FetchString.{stringReply}
 use Rattle.pool.specs.Totals.{totalsReply}
-use Rattle.pool.specs.Replies.{replyNumber, replyLine, fetchedNumber, fetchedCount, countsNumber, countsTexts, countsStatements, countsValues}
+use Rattle.pool.specs.Replies.{replyNumber, replyLine, replyColumn, fetchedNumber, fetchedCount, countsNumber, countsTexts, countsStatements, countsValues}
 use Rattle.pool.specs.declared.reply.Reply.{Reply}
 use Rattle.pool.specs.declared.reply.Fetched.{Fetched}
 use Rattle.pool.specs.declared.reply.Counts.{Counts}
@@ -19,20 +19,23 @@ use Rattle.globe_c.specs.Faces.{replyFace, fetchedFace, countsFace}
 pub record WholeReply (reply : Reply) : Type 0 where
   pub number : replyFace reply .number ≡ replyNumber reply
   pub line : replyFace reply .line ≡ replyLine reply
+  pub column : replyFace reply .column ≡ replyColumn reply
 
 pub record WholeFetched (fetched : Fetched) : Type 0 where
   pub number : fetchedFace fetched .number ≡ fetchedNumber fetched
   pub line : fetchedFace fetched .line ≡ 0
+  pub column : fetchedFace fetched .column ≡ 0
   pub count : fetchedFace fetched .count ≡ fetchedCount fetched
 
 pub record WholeCounts (counts : Counts) : Type 0 where
   pub number : countsFace counts .number ≡ countsNumber counts
   pub line : countsFace counts .line ≡ 0
+  pub column : countsFace counts .column ≡ 0
   pub texts : countsFace counts .texts ≡ countsTexts counts
   pub statements : countsFace counts .statements ≡ countsStatements counts
   pub values : countsFace counts .values ≡ countsValues counts
 
--- ---- the calls that answer a line, a count or totals
+-- ---- the calls that answer a line, a column, a count or totals
 
 pub record LosesNothing : Type 0 where
   pub makeEmpty : (m : List ℕ) → WholeReply (emptyReply m)

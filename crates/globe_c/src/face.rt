@@ -15,12 +15,14 @@ ghost use Rattle.globe_c.specs.Faces.{narrow, replyFace, fetchedFace, co
 pub struct GlobeReply {
     pub number: u32,
     pub line: u32,
+    pub column: u32,
 }
 
 #[repr(C)]
 pub struct GlobeFetched {
     pub number: u32,
     pub line: u32,
+    pub column: u32,
     pub count: u32,
 }
 
@@ -28,6 +30,7 @@ pub struct GlobeFetched {
 pub struct GlobeCounts {
     pub number: u32,
     pub line: u32,
+    pub column: u32,
     pub texts: u32,
     pub statements: u32,
     pub values: u32,
@@ -37,6 +40,7 @@ pub struct GlobeCounts {
 pub struct GlobeOriented {
     pub number: u32,
     pub line: u32,
+    pub column: u32,
     pub ra: f64,
     pub dec: f64,
     pub w: f64,
@@ -55,6 +59,7 @@ pub struct GlobeOriented {
 pub struct GlobeAxes {
     pub number: u32,
     pub line: u32,
+    pub column: u32,
     pub a: f64,
     pub b: f64,
     pub c: f64,
@@ -64,10 +69,15 @@ pub(crate) fn reply_face(reply: Reply) -> GlobeReply
     ensures { λ r. ⌜ r ≡ replyFace reply ⌝ }
 {
     match reply {
-        Reply::Done => GlobeReply { number: 0, line: 0 },
-        Reply::Refused(refusal, line) => GlobeReply {
+        Reply::Done => GlobeReply {
+            number: 0,
+            line: 0,
+            column: 0,
+        },
+        Reply::Refused(refusal, line, column) => GlobeReply {
             number: number(refusal),
             line: narrow(line),
+            column: narrow(column),
         },
     }
 }
@@ -79,11 +89,13 @@ pub(crate) fn fetched_face(fetched: Fetched) -> GlobeFetched
         Fetched::Count(count) => GlobeFetched {
             number: 0,
             line: 0,
+            column: 0,
             count: narrow(count),
         },
         Fetched::Refused(refusal) => GlobeFetched {
             number: number(refusal),
             line: 0,
+            column: 0,
             count: 0,
         },
     }
@@ -96,6 +108,7 @@ pub(crate) fn counts_face(counts: Counts) -> GlobeCounts
         Counts::Held(texts, statements, values) => GlobeCounts {
             number: 0,
             line: 0,
+            column: 0,
             texts: narrow(texts),
             statements: narrow(statements),
             values: narrow(values),
@@ -103,6 +116,7 @@ pub(crate) fn counts_face(counts: Counts) -> GlobeCounts
         Counts::Refused(refusal) => GlobeCounts {
             number: number(refusal),
             line: 0,
+            column: 0,
             texts: 0,
             statements: 0,
             values: 0,
@@ -126,6 +140,7 @@ pub(crate) fn axes_face(radii: Radii) -> GlobeAxes
         Radii::Given(x) => GlobeAxes {
             number: 0,
             line: 0,
+            column: 0,
             a: x.a,
             b: x.b,
             c: x.c,
@@ -133,6 +148,7 @@ pub(crate) fn axes_face(radii: Radii) -> GlobeAxes
         Radii::Refused(refusal) => GlobeAxes {
             number: number(refusal),
             line: 0,
+            column: 0,
             a: 0.0,
             b: 0.0,
             c: 0.0,
@@ -146,6 +162,7 @@ fn given(o: Orientation) -> GlobeOriented
     GlobeOriented {
         number: 0,
         line: 0,
+        column: 0,
         ra: o.ra,
         dec: o.dec,
         w: o.w,
@@ -167,6 +184,7 @@ fn refused(refusal: Refusal) -> GlobeOriented
     GlobeOriented {
         number: number(refusal),
         line: 0,
+        column: 0,
         ra: 0.0,
         dec: 0.0,
         w: 0.0,

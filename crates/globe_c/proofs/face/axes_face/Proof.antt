@@ -22,7 +22,7 @@ returns c = ap axesFace (sym (c .before .radii .given .1))
 
 returns-2 : tie.Need-returns-2
 unfolding axesFace printed round ofBits
-returns-2 c = (λ i. record { number = c .number .ensures i; line = 0; a = nought; b = nought; c = nought }) ∙ ap axesFace (sym (c .before .before .radii2 .given .1))
+returns-2 c = (λ i. record { number = c .number .ensures i; line = 0; column = 0; a = nought; b = nought; c = nought }) ∙ ap axesFace (sym (c .before .before .radii2 .given .1))
 
 pub axes-face-spec : {M : Type 1} → statement M
 axes-face-spec =

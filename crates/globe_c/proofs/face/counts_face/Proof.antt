@@ -24,10 +24,10 @@ number-requires : tie.Need-number-requires
 number-requires c κs = search needs
 
 returns : tie.Need-returns
-returns c = (λ i. record { number = 0; line = 0; texts = c .before .before .narrow .ensures i; statements = c .before .narrow2 .ensures i; values = c .narrow3 .ensures i }) ∙ ap countsFace (sym (c .before .before .before .before .counts .given .1))
+returns c = (λ i. record { number = 0; line = 0; column = 0; texts = c .before .before .narrow .ensures i; statements = c .before .narrow2 .ensures i; values = c .narrow3 .ensures i }) ∙ ap countsFace (sym (c .before .before .before .before .counts .given .1))
 
 returns-2 : tie.Need-returns-2
-returns-2 c = (λ i. record { number = c .number .ensures i; line = 0; texts = 0; statements = 0; values = 0 }) ∙ ap countsFace (sym (c .before .before .counts2 .given .1))
+returns-2 c = (λ i. record { number = c .number .ensures i; line = 0; column = 0; texts = 0; statements = 0; values = 0 }) ∙ ap countsFace (sym (c .before .before .counts2 .given .1))
 
 pub counts-face-spec : {M : Type 1} → statement M
 counts-face-spec =

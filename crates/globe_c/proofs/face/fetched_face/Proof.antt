@@ -18,10 +18,10 @@ number-requires : tie.Need-number-requires
 number-requires c κs = search needs
 
 returns : tie.Need-returns
-returns c = (λ i. record { number = 0; line = 0; count = c .narrow .ensures i }) ∙ ap fetchedFace (sym (c .before .before .fetched .given .1))
+returns c = (λ i. record { number = 0; line = 0; column = 0; count = c .narrow .ensures i }) ∙ ap fetchedFace (sym (c .before .before .fetched .given .1))
 
 returns-2 : tie.Need-returns-2
-returns-2 c = (λ i. record { number = c .number .ensures i; line = 0; count = 0 }) ∙ ap fetchedFace (sym (c .before .before .fetched2 .given .1))
+returns-2 c = (λ i. record { number = c .number .ensures i; line = 0; column = 0; count = 0 }) ∙ ap fetchedFace (sym (c .before .before .fetched2 .given .1))
 
 pub fetched-face-spec : {M : Type 1} → statement M
 fetched-face-spec =

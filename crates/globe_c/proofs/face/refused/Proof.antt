@@ -11,7 +11,7 @@ number-requires c κs = search needs
 
 returns : tie.Need-returns
 unfolding orientedFace printed round ofBits
-returns c = λ i. record { number = c .number .ensures i; line = 0; ra = nought; dec = nought; w = nought; m11 = nought; m12 = nought; m13 = nought; m21 = nought; m22 = nought; m23 = nought; m31 = nought; m32 = nought; m33 = nought }
+returns c = λ i. record { number = c .number .ensures i; line = 0; column = 0; ra = nought; dec = nought; w = nought; m11 = nought; m12 = nought; m13 = nought; m21 = nought; m22 = nought; m23 = nought; m31 = nought; m32 = nought; m33 = nought }
 
 pub refused-spec : {M : Type 1} → statement M
 refused-spec = tie.close (tie.spec number-requires returns)
