@@ -2,6 +2,7 @@
 pub mod Contracts
 pub mod Refusals
 pub mod Reports
+pub mod Renumbered
 pub mod Order
 pub mod Fetched
 pub mod Accepted

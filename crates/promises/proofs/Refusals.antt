@@ -35,7 +35,6 @@ refused-number Q.LabelHeld = refl
 refused-number Q.TextTooLong = refl
 refused-number Q.LineTooLong = refl
 refused-number Q.BadByte = refl
-refused-number Q.Syntax = refl
 refused-number Q.Number = refl
 refused-number Q.NoRoom = refl
 refused-number Q.NotHeld = refl
@@ -47,16 +46,21 @@ refused-number Q.NoVariable = refl
 refused-number Q.ShortBuffer = refl
 refused-number Q.DamagedPool = refl
 refused-number Q.MixedKind = refl
+refused-number Q.BadName = refl
+refused-number Q.NoOperator = refl
+refused-number Q.BadValue = refl
+refused-number Q.OpenList = refl
+refused-number Q.RestOfLine = refl
 
 -- a call that changes the pool is accepted exactly when it is done
 pub accepted-done : (r : Reply) → eqb (replyNumber r) SUCCESS ≡ done r
 accepted-done R.Done = refl
-accepted-done (R.Refused q line) = refused-number q
+accepted-done (R.Refused q line column) = refused-number q
 
 -- memory that is written only where the call is done
 unwritten : (r : Reply) (after before : List ℕ) → eqb (replyNumber r) SUCCESS ≡ false → (if done r then after else before) ≡ before
 unwritten R.Done after before e = absurd (true≢false e)
-unwritten (R.Refused q line) after before e = refl
+unwritten (R.Refused q line column) after before e = refl
 
 -- a buffer that is written only where the pool is undamaged and what is asked for is found, with room for it
 untouched : {A : Type 0} (b : Bool) (r : Found) (xs buffer : List A)

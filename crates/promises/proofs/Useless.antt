@@ -11,6 +11,7 @@ use lib.ListN.{length}
 use Rattle.plain.specs.Doubles.{printed, nought}
 use Rattle.rotation.specs.declared.matrix.Orientation.{Orientation}
 use Rattle.rotation.specs.declared.table.Axes.{Axes}
+use Rattle.text.specs.Columns.{columnOf}
 use Rattle.value.specs.Faults.{refusalOf}
 use Rattle.layout.specs.Memory.{decode}
 use Rattle.plain.proofs.Tests.{both}
@@ -132,10 +133,12 @@ invented-line : (b : Build) → Contracts b → InventedLine b → ⊥
 unfolding loadReply loadAnswer
 invented-line b d u =
     let c = d .load (u .label) (u .bytes) (u .m) in
-    let e : replied (Refused (u .q) (u .told)) ≡ replied (loadReply (u .label) (u .bytes) (u .m)) = sym (u .tells) ∙ c .is ∙ ap replied (c .contract .reply) in
-    let f : loadReply (u .label) (u .bytes) (u .m) ≡ Refused (refusalOf (u .fault)) (u .line) =
+    let e : replied (Refused (u .q) (u .told) (u .column)) ≡ replied (loadReply (u .label) (u .bytes) (u .m)) = sym (u .tells) ∙ c .is ∙ ap replied (c .contract .reply) in
+    let f : loadReply (u .label) (u .bytes) (u .m) ≡ Refused (refusalOf (u .fault)) (u .line) (columnOf (u .place)) =
     rw (u .undamaged, u .free, le-ltb LONGEST-LOAD (length (u .bytes)) (u .short), u .faulty) in
-    u .invented cc
+    let l : u .told ≡ u .line = cc in
+    let k : u .column ≡ columnOf (u .place) = cc in
+    u .invented l k
 
 pub caught : Caught
 caught = record {

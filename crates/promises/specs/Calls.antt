@@ -11,7 +11,7 @@ use Rattle.rotation.specs.declared.matrix.Oriented.{Oriented}
 use Rattle.rotation.specs.declared.matrix.Oriented.the-variants as O
 use Rattle.rotation.specs.declared.table.Radii.{Radii}
 use Rattle.rotation.specs.declared.table.Radii.the-variants as A
-use Rattle.pool.specs.Replies.{replyNumber, replyLine, fetchedNumber, fetchedCount, countsNumber}
+use Rattle.pool.specs.Replies.{replyNumber, replyLine, replyColumn, fetchedNumber, fetchedCount, countsNumber}
 use Rattle.pool.specs.declared.reply.Reply.{Reply}
 use Rattle.pool.specs.declared.reply.Fetched.{Fetched}
 use Rattle.pool.specs.declared.reply.Counts.{Counts}
@@ -116,6 +116,15 @@ line (spelled r buffer) = 0
 line (counted r) = 0
 line (oriented r) = 0
 line (measured r) = 0
+
+-- "give the column, counted from 1, beside the line"
+abbrev pub column : Answer → ℕ
+column (replied r) = replyColumn r
+column (fetched r buffer) = 0
+column (spelled r buffer) = 0
+column (counted r) = 0
+column (oriented r) = 0
+column (measured r) = 0
 
 -- "fetch also tells the count (0 when refused)"; of a string "its length told"
 abbrev pub count : Answer → ℕ

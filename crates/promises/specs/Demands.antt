@@ -1,7 +1,7 @@
 -- Demands 1 and 2, as the customer says them. Definitions only; the theorems are in proofs/.
 use Prim.Native.Nat.{ℕ, _≤_}
 use mathlib.Core.Path.{_≡_}
-use mathlib.Core.Bool.{true, false}
+use mathlib.Core.Bool.{Bool, true, false, _||_}
 use mathlib.Core.List.{List, [], _∷_, _++_}
 use mathlib.Core.Logic.{_↔_}
 use lib.Ieee.{Float}
@@ -26,7 +26,7 @@ use Rattle.rotation.specs.declared.table.Radii.{Radii}
 use Rattle.rotation.specs.declared.table.Radii.the-variants as A
 use Rattle.rotation.specs.declared.table.Row.the-variants.{Held}
 use Rattle.rotation.specs.declared.table.Size.the-variants.{Known}
-use Rattle.text.specs.Lines.{lines}
+use Rattle.text.specs.Columns.{columnOf, Pointed}
 use Rattle.value.specs.Faults.{refusalOf}
 use Rattle.statement.specs.Statements.{Event}
 use Rattle.text.specs.Text.{fine, refused, readText}
@@ -53,7 +53,7 @@ use Rattle.globe.specs.declared.source.Source.{Source}
 use Rattle.globe.specs.declared.source.Source.the-variants as S
 use Rattle.wanted.specs.declared.name.Wanted.the-variants as W
 use Rattle.promises.specs.Calls as C
-use Rattle.promises.specs.Calls.{Call, Answer, load, orientation, radii, oriented, measured, query, Build, number, line, count, doubles, totalled, accepted, lent, returned}
+use Rattle.promises.specs.Calls.{Call, Answer, load, orientation, radii, oriented, measured, query, Build, number, line, column, count, doubles, totalled, accepted, lent, returned}
 
 -- ---- demand 1: "Every public call has a contract that determines result and lent memory entirely, refusals too."
 
@@ -106,23 +106,28 @@ pub record NoSecondAnswer : Type 0 where
   pub orientation : (source : Source) (memory : List ℕ) (n : ℕ) (epoch : Float) → OneAnswer (Orients source memory n epoch)
   pub radii : (source : Source) (memory : List ℕ) (n : ℕ) → OneAnswer (Measures source memory n)
 
--- the text's first fault is this refusal, at this one of its lines
-pub record Faulty (bytes : List ℕ) (q : Refusal) (n : ℕ) : Type 0 where
+-- "for 3 to 6 and all the new ones": the numbers that come with a line and a column
+abbrev pub points : ℕ → Bool
+points n = within 3 6 n || within 17 21 n
+
+-- the text's first fault is this refusal, at this one of its lines and this column of it
+pub record Faulty (bytes : List ℕ) (q : Refusal) (n column : ℕ) : Type 0 where
   pub fault : Fault
   pub place : ℕ
   pub refusal : q ≡ refusalOf fault
   pub read : readText bytes ≡ refused fault n place
-  pub from : 1 ≤ n
-  pub to : n ≤ length (lines bytes)
+  pub column-is : column ≡ columnOf place
+  pub pointed : Pointed bytes n column
 
 -- "Success is number 0 with line 0, and fetch also tells the count (0 when refused). A refusal returns its number, for 3 to 6 the line (0
--- for all others), and no values"
+-- for all others), and no values"; the column beside the line
 pub record Reports (b : Build) : Type 0 where
-  pub success : (c : Call) (m : List ℕ) → accepted (b .answer c m) ≡ true → line (b .answer c m) ≡ 0
-  pub others : (c : Call) (m : List ℕ) → within 3 6 (number (b .answer c m)) ≡ false → line (b .answer c m) ≡ 0
+  pub success : (c : Call) (m : List ℕ) → accepted (b .answer c m) ≡ true → (line (b .answer c m) ≡ 0) × (column (b .answer c m) ≡ 0)
+  pub others :
+      (c : Call) (m : List ℕ) → points (number (b .answer c m)) ≡ false → (line (b .answer c m) ≡ 0) × (column (b .answer c m) ≡ 0)
   pub faults :
-      (label : ℕ) (bytes m : List ℕ) (q : Refusal) (n : ℕ) → b .answer (load label bytes) m ≡ C.replied (Refused q n)
-      → within 3 6 (numberOf q) ≡ true → Faulty bytes q n
+      (label : ℕ) (bytes m : List ℕ) (q : Refusal) (n k : ℕ) → b .answer (load label bytes) m ≡ C.replied (Refused q n k)
+      → points (numberOf q) ≡ true → Faulty bytes q n k
   pub noValues :
       (c : Call) (m : List ℕ) → accepted (b .answer c m) ≡ false
       → (count (b .answer c m) ≡ 0) × (doubles (b .answer c m) ≡ []) × (totalled (b .answer c m) ≡ [])

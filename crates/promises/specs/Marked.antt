@@ -23,7 +23,7 @@ use Rattle.decimal.specs.declared.Reading.{Reading}
 use Rattle.decimal.specs.declared.Reading.the-variants as D
 use Rattle.layout.specs.State.{Pool}
 use Rattle.layout.specs.Damage.{sound}
-use Rattle.pool.specs.Replies.{replyNumber, replyLine, done}
+use Rattle.pool.specs.Replies.{replyColumn, replyNumber, replyLine, done}
 use Rattle.variables.specs.Variables.{variable, allNumbers}
 use Rattle.variables.specs.Found.{doubles}
 use Rattle.pool.specs.Load.{textOf, with, loadAnswer}
@@ -52,12 +52,14 @@ hasBits n (D.Number x) = eqb (bits x) n
 hasBits n (D.BadForm q) = false
 hasBits n (D.OutsideClass q) = false
 
--- an empty pool answers the load of a text so: the number and the line
-abbrev pub answers : (number line : ℕ) (bytes : List ℕ) → Bool
-answers number line bytes = eqb (replyNumber (loadAnswer 1 bytes [])) number && eqb (replyLine (loadAnswer 1 bytes [])) line
+-- an empty pool answers the load of a text so: the number, the line and the column
+abbrev pub answers : (number line column : ℕ) (bytes : List ℕ) → Bool
+answers number line column bytes =
+    let r = loadAnswer 1 bytes [] in
+    eqb (replyNumber r) number && eqb (replyLine r) line && eqb (replyColumn r) column
 
 abbrev pub accepts : List ℕ → Bool
-accepts bytes = answers 0 0 bytes
+accepts bytes = answers 0 0 0 bytes
 
 -- so many statements
 abbrev pub adds : ℕ → List ℕ → Bool
@@ -116,11 +118,11 @@ threePlaces = hasBits 0x4070E00000000000 (reading (ascii "270.000"))
 
 -- 4. 9007199254740992 accepted, …993 refused 6.
 abbrev pub largest : Bool
-largest = accepts (inData "X = 9007199254740992") && answers 6 2 (inData "X = 9007199254740993")
+largest = accepts (inData "X = 9007199254740992") && answers 6 2 5 (inData "X = 9007199254740993")
 
 -- 5. `1E22` and `1.0E23` accepted, `1E23` refused 6.
 abbrev pub steepest : Bool
-steepest = accepts (inData "X = 1E22") && accepts (inData "X = 1.0E23") && answers 6 2 (inData "X = 1E23")
+steepest = accepts (inData "X = 1E22") && accepts (inData "X = 1.0E23") && answers 6 2 5 (inData "X = 1E23")
 
 -- 6. `X = 1` then `X += 2` gives 1, 2; `X += 2` then `X = 1` gives 1: in one text, and in two.
 abbrev pub appending : Bool
@@ -169,9 +171,9 @@ eleven =
     refusedWith 10 (builtinOrientation 11 nought) && radiiRefusedWith 10 (builtinRadii 11) && not (sound [])
     && refusedWith 10 (orientationReply S.Builtin [] 11 nought) && radiiRefusedWith 10 (radiiReply S.Builtin [] 11)
 
--- 12. `X = ( )` refused 5.
+-- 12. `X = ( )` refused 20 (5 before K3), at the `)`.
 abbrev pub noValue : Bool
-noValue = answers 5 2 (inData "X = ( )")
+noValue = answers 20 2 7 (inData "X = ( )")
 
 abbrev pub table : List Case
 table =

@@ -17,6 +17,7 @@ use Rattle.rotation.specs.declared.matrix.Oriented.the-variants as O
 use Rattle.rotation.specs.declared.table.Axes.{Axes}
 use Rattle.rotation.specs.declared.table.Radii.the-variants as A
 use Rattle.rotation.specs.declared.table.Row.the-variants.{Held}
+use Rattle.text.specs.Columns.{columnOf}
 use Rattle.text.specs.Text.{refused, readText}
 use Rattle.value.specs.declared.faults.Fault.{Fault}
 use Rattle.layout.specs.State.{Pool}
@@ -139,7 +140,7 @@ pub record OtherTotals (b : Build) : Type 0 where
 
 -- ---- demand 1
 
--- "a load answering an invented line": another one than that of the text's first fault
+-- "a load answering an invented line", or an invented column: others than those of the text's first fault
 pub record InventedLine (b : Build) : Type 0 where
   pub label : ℕ
   pub bytes : List ℕ
@@ -153,8 +154,9 @@ pub record InventedLine (b : Build) : Type 0 where
   pub faulty : readText bytes ≡ refused fault line place
   pub q : Refusal
   pub told : ℕ
-  pub tells : b .answer (load label bytes) m ≡ replied (Refused q told)
-  pub invented : told ≡ line → ⊥
+  pub column : ℕ
+  pub tells : b .answer (load label bytes) m ≡ replied (Refused q told column)
+  pub invented : told ≡ line → column ≡ columnOf place → ⊥
 
 -- ---- the claim
 
