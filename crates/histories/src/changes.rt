@@ -24,6 +24,7 @@ pub fn load(fields: &[u8], text: &[u8], words: &mut [u64], size: usize)
     print::field(label as u64);
     print::field(number(reply));
     print::field(line(reply));
+    print::field(column(reply));
     end(reply, words);
 }
 
@@ -56,7 +57,7 @@ fn label_of(field: &[u8]) -> u32 {
 fn number(reply: Reply) -> u64 {
     match reply {
         Reply::Done => 0,
-        Reply::Refused(refusal, _) => refusal::number(refusal) as u64,
+        Reply::Refused(refusal, _, _) => refusal::number(refusal) as u64,
     }
 }
 
@@ -64,7 +65,15 @@ fn number(reply: Reply) -> u64 {
 fn line(reply: Reply) -> u64 {
     match reply {
         Reply::Done => 0,
-        Reply::Refused(_, line) => line as u64,
+        Reply::Refused(_, line, _) => line as u64,
+    }
+}
+
+// The column that an answer tells.
+fn column(reply: Reply) -> u64 {
+    match reply {
+        Reply::Done => 0,
+        Reply::Refused(_, _, column) => column as u64,
     }
 }
 

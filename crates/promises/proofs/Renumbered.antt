@@ -1,5 +1,5 @@
 -- What became of 5: a refusal that was 5 has one of the five numbers, and every other one has its own. Assumes nothing.
-use Prim.Native.Nat.{ℕ, _≤_}
+use Prim.Native.Nat.{ℕ}
 use native.Mathlib.Omega.{arith}
 use mathlib.Core.Path.{_≡_, refl, sym}
 use mathlib.Core.Bool.{true, true≢false}
@@ -9,8 +9,6 @@ use Rattle.plain.specs.Bytes.{within}
 use Rattle.plain.proofs.Ranges.{within-inside}
 use Rattle.plain.proofs.Tests.{both}
 use Rattle.refusal.specs.Numbers.{numberOf}
-use Rattle.refusal.specs.Before.{SYNTAX, numberBefore}
-use Rattle.refusal.specs.declared.Refusal.{Refusal}
 use Rattle.refusal.proofs.Before.{OneOfFive, five-split, others-stay, same-number}
 use Rattle.pool.specs.Load.{loadReply}
 use Rattle.pool.specs.Replies.{replyLine}

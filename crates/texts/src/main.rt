@@ -1,5 +1,6 @@
-// Every text of a stream is checked, and a line says what it is: its place, the refusal's number and line, and how many statements and values it has.
-// A text in the stream is its length in decimal, LF, its bytes, LF. `stdin` and `stdout` are made by rust/twin, an implementation of its own.
+// Every text of a stream is checked, and a line says what it is: its place, the refusal's number, line and column, and how many statements
+// and values it has. A text in the stream is its length in decimal, LF, its bytes, LF. `stdin` and `stdout` are made by rust/twin, an
+// implementation of its own.
 mod answers;
 
 use libc::STDIN_FILENO;
