@@ -1,4 +1,5 @@
-//! The listing of one text: document 01, "The listing", and strings as K2 of document 02 shows them.
+//! The listing of one text: document 01, "The listing", and K2 and K3 of document 02: strings as
+//! written, a refusal with its column.
 
 use std::io::{self, Write};
 
@@ -19,9 +20,10 @@ pub fn list(text: &[u8], out: &mut impl Write) -> io::Result<()> {
         Ok(lines) => out.write_all(&lines),
         Err(refused) => writeln!(
             out,
-            "refused {} line {}",
+            "refused {} line {} column {}",
             refused.refusal.number(),
-            refused.line
+            refused.line,
+            refused.column
         ),
     }
 }

@@ -1,4 +1,4 @@
-//! The refusals and their numbers: document 01, "Refusal numbers", and K2 of document 02.
+//! The refusals and their numbers: document 01, "Refusal numbers", and K2 and K3 of document 02.
 
 /// Why a call is refused.
 #[derive(Clone, Copy, Debug, PartialEq, Eq)]
@@ -7,7 +7,6 @@ pub enum Refusal {
     TextTooLong,
     LineTooLong,
     BadByte,
-    Syntax,
     Number,
     NoRoom,
     NotHeld,
@@ -19,17 +18,21 @@ pub enum Refusal {
     ShortBuffer,
     DamagedPool,
     MixedKind,
+    BadName,
+    NoOperator,
+    BadValue,
+    OpenList,
+    RestOfLine,
 }
 
 impl Refusal {
-    /// The number in the documents.
+    /// The number in the documents. 5 was given before K3 and stays reserved.
     pub fn number(self) -> u32 {
         match self {
             Refusal::LabelHeld => 1,
             Refusal::TextTooLong => 2,
             Refusal::LineTooLong => 3,
             Refusal::BadByte => 4,
-            Refusal::Syntax => 5,
             Refusal::Number => 6,
             Refusal::NoRoom => 7,
             Refusal::NotHeld => 8,
@@ -41,27 +44,35 @@ impl Refusal {
             Refusal::ShortBuffer => 14,
             Refusal::DamagedPool => 15,
             Refusal::MixedKind => 16,
+            Refusal::BadName => 17,
+            Refusal::NoOperator => 18,
+            Refusal::BadValue => 19,
+            Refusal::OpenList => 20,
+            Refusal::RestOfLine => 21,
         }
     }
 
-    /// This refusal at a line of a text.
-    pub fn at_line(self, line: u64) -> Refused {
+    /// This refusal at a byte of a text.
+    pub fn at(self, line: u64, column: u64) -> Refused {
         Refused {
             refusal: self,
             line,
+            column,
         }
     }
 }
 
-/// A refusal with its place: the line for refusals 3 to 6, 0 for all others.
+/// A refusal with its place, line and column counted from 1: refusals 3, 4, 6 and 17 to 21 have one,
+/// for all others both are 0.
 #[derive(Clone, Copy, Debug, PartialEq, Eq)]
 pub struct Refused {
     pub refusal: Refusal,
     pub line: u64,
+    pub column: u64,
 }
 
 impl From<Refusal> for Refused {
     fn from(refusal: Refusal) -> Refused {
-        refusal.at_line(0)
+        refusal.at(0, 0)
     }
 }

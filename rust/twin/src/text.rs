@@ -1,7 +1,7 @@
-//! A text to its statements: document 01, "Text rules", with the lines of K1 and the strings of K2
-//! of document 02. One scanner reads a text line by line and tells a sink what it meets; it keeps no
-//! more than whether a list is open and of which kind. Reading from left to right, the first fault
-//! met is the first there is.
+//! A text to its statements: document 01, "Text rules", with the lines of K1, the strings of K2 and
+//! the faults of K3 of document 02. One scanner reads a text line by line and tells a sink what it
+//! meets; it keeps no more than whether a list is open and of which kind. Reading from left to right,
+//! the first fault met is the first there is.
 
 use crate::decimal::{self, Reading};
 use crate::limits::{LINE_BYTES, NAME_BYTES};
@@ -78,20 +78,39 @@ fn add_value(statements: &mut [Statement], value: Value) {
     }
 }
 
+/// A fault of a line, with what stands from there to the line's end: nothing, if the fault is that
+/// something is missing there.
+struct Fault<'a> {
+    refusal: Refusal,
+    rest: &'a [u8],
+}
+
+impl Fault<'_> {
+    /// The fault in a line of its number.
+    fn within(self, line: &[u8], number: u64) -> Refused {
+        self.refusal.at(number, column(line, self.rest))
+    }
+}
+
+/// The column at which the rest of a line begins; one past the line if nothing is left.
+fn column(line: &[u8], rest: &[u8]) -> u64 {
+    (line.len() - rest.len()) as u64 + 1
+}
+
 /// Tells a sink the statements of a text, up to the first fault if there is one.
 pub fn scan(text: &[u8], sink: &mut impl Sink) -> Result<(), Refused> {
     let mut state = State::Text;
+    let mut line = text;
     let mut rest = text;
     let mut number = 0;
     while !rest.is_empty() {
-        let (line, after) = first_line(rest);
-        rest = after;
+        (line, rest) = first_line(rest);
         number += 1;
-        state = scan_line(state, line, sink).map_err(|fault| fault.at_line(number))?;
+        state = scan_line(state, line, sink).map_err(|fault| fault.within(line, number))?;
     }
     match state {
         State::Text | State::Data => Ok(()),
-        State::List { .. } => Err(Refusal::Syntax.at_line(number)),
+        State::List { .. } => Err(Refusal::OpenList.at(number, column(line, &[]))),
     }
 }
 
@@ -117,28 +136,34 @@ fn first_line(text: &[u8]) -> (&[u8], &[u8]) {
 }
 
 /// The state after a line, or the line's first fault.
-fn scan_line(state: State, line: &[u8], sink: &mut impl Sink) -> Result<State, Refusal> {
+fn scan_line<'a>(state: State, line: &'a [u8], sink: &mut impl Sink) -> Result<State, Fault<'a>> {
     let section = delimited(line);
     if state == State::Text && section.is_none() {
         return Ok(State::Text);
     }
     // Here a line is a data or delimiter line; all others may have any length.
     if line.len() > LINE_BYTES {
-        return Err(Refusal::LineTooLong);
+        return fault(Refusal::LineTooLong, &line[LINE_BYTES..]);
     }
     if let Some(section) = section {
         return match state {
             State::Text | State::Data => Ok(section),
-            State::List { .. } => Err(Refusal::Syntax),
+            State::List { .. } => fault(Refusal::OpenList, line),
         };
     }
-    if !line.iter().all(|b| is_data_byte(*b)) {
-        return Err(Refusal::BadByte);
+    let bad = skip(line, is_data_byte);
+    if !bad.is_empty() {
+        return fault(Refusal::BadByte, bad);
     }
     match state {
         State::List { kind } => scan_list(line, kind, sink),
         State::Text | State::Data => scan_statement(line, sink),
     }
+}
+
+/// A fault at the first byte of the rest of a line.
+fn fault<T>(refusal: Refusal, rest: &[u8]) -> Result<T, Fault<'_>> {
+    Err(Fault { refusal, rest })
 }
 
 /// The section that a delimiter line opens.
@@ -153,23 +178,23 @@ fn delimited(line: &[u8]) -> Option<State> {
 }
 
 /// A data line outside of any list: nothing, or a statement.
-fn scan_statement(line: &[u8], sink: &mut impl Sink) -> Result<State, Refusal> {
+fn scan_statement<'a>(line: &'a [u8], sink: &mut impl Sink) -> Result<State, Fault<'a>> {
     let line = skip(line, is_blank);
     if line.is_empty() {
         return Ok(State::Data);
     }
-    let (name, line) = run(line, is_name_byte);
+    let (name, after) = run(line, is_name_byte);
     if name.is_empty() || name.len() > NAME_BYTES {
-        return Err(Refusal::Syntax);
+        return fault(Refusal::BadName, line);
     }
-    let line = skip(line, is_blank);
-    let (operator, line) = match line {
+    let line = skip(after, is_blank);
+    let (operator, after) = match line {
         [b'=', after @ ..] => (Operator::Direct, after),
         [b'+', b'=', after @ ..] => (Operator::Append, after),
-        _ => return Err(Refusal::Syntax),
+        _ => return fault(Refusal::NoOperator, line),
     };
     sink.head(name, operator);
-    let line = skip(line, is_blank);
+    let line = skip(after, is_blank);
     if let [b'(', after @ ..] = line {
         scan_list(after, None, sink)
     } else {
@@ -179,17 +204,22 @@ fn scan_statement(line: &[u8], sink: &mut impl Sink) -> Result<State, Refusal> {
 
 /// A line, or the rest of one, within a list. A value of the second kind is a fault before anything
 /// that may be wrong with it.
-fn scan_list(line: &[u8], kind: Option<Kind>, sink: &mut impl Sink) -> Result<State, Refusal> {
+fn scan_list<'a>(
+    line: &'a [u8],
+    kind: Option<Kind>,
+    sink: &mut impl Sink,
+) -> Result<State, Fault<'a>> {
     let mut kind = kind;
     let mut line = skip(line, is_separator);
     loop {
-        line = match line {
-            [] => return Ok(State::List { kind }),
-            [b')', after @ ..] if kind.is_some() => return scan_rest(after),
+        line = match (line, kind) {
+            ([], _) => return Ok(State::List { kind }),
+            ([b')', ..], None) => return fault(Refusal::OpenList, line),
+            ([b')', after @ ..], Some(_)) => return scan_rest(after),
             _ => {
                 let next = kind_of(line);
                 if *kind.get_or_insert(next) != next {
-                    return Err(Refusal::Syntax);
+                    return fault(Refusal::BadValue, line);
                 }
                 skip(scan_value(line, next, sink)?, is_separator)
             }
@@ -205,12 +235,14 @@ fn kind_of(line: &[u8]) -> Kind {
     }
 }
 
-/// What follows the value at the start of a line.
-fn scan_value<'a>(line: &'a [u8], kind: Kind, sink: &mut impl Sink) -> Result<&'a [u8], Refusal> {
-    match kind {
+/// What follows the value at the start of a line. Whatever is wrong with a value is a fault at its
+/// first byte.
+fn scan_value<'a>(line: &'a [u8], kind: Kind, sink: &mut impl Sink) -> Result<&'a [u8], Fault<'a>> {
+    let scanned = match kind {
         Kind::Number => scan_number(line, sink),
         Kind::String => scan_string(&line[1..], sink),
-    }
+    };
+    scanned.or_else(|refusal| fault(refusal, line))
 }
 
 /// What follows the number at the start of a line. A bracket or a comma there, or nothing, is an
@@ -222,7 +254,7 @@ fn scan_number<'a>(line: &'a [u8], sink: &mut impl Sink) -> Result<&'a [u8], Ref
             sink.number(number);
             Ok(after)
         }
-        Reading::Form => Err(Refusal::Syntax),
+        Reading::Form => Err(Refusal::BadValue),
         Reading::Class => Err(Refusal::Number),
     }
 }
@@ -230,20 +262,21 @@ fn scan_number<'a>(line: &'a [u8], sink: &mut impl Sink) -> Result<&'a [u8], Ref
 /// What follows the string whose opening quote stands just before: a blank, comma, bracket or the
 /// line's end.
 fn scan_string<'a>(line: &'a [u8], sink: &mut impl Sink) -> Result<&'a [u8], Refusal> {
-    let (string, after) = string::read(line).ok_or(Refusal::Syntax)?;
+    let (string, after) = string::read(line).ok_or(Refusal::BadValue)?;
     if after.first().is_some_and(|b| is_value_byte(*b)) {
-        return Err(Refusal::Syntax);
+        return Err(Refusal::BadValue);
     }
     sink.string(string);
     Ok(after)
 }
 
 /// After a statement only blanks follow on its line.
-fn scan_rest(line: &[u8]) -> Result<State, Refusal> {
-    if skip(line, is_blank).is_empty() {
+fn scan_rest(line: &[u8]) -> Result<State, Fault<'_>> {
+    let stray = skip(line, is_blank);
+    if stray.is_empty() {
         Ok(State::Data)
     } else {
-        Err(Refusal::Syntax)
+        fault(Refusal::RestOfLine, stray)
     }
 }
 

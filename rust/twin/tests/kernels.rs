@@ -4,7 +4,7 @@ use twin::answers::{orientation, radii};
 use twin::builtin::{builtin_orientation, builtin_radii};
 use twin::layout::WORDS;
 use twin::pool::{fetch, fetch_string, load, make_empty};
-use twin::refusal::{Refusal, Refused};
+use twin::refusal::Refusal;
 
 const PLANETS: &[u8] = include_bytes!("../../../examples/kernels/planets.tpc");
 const RADII: &[u8] = include_bytes!("../../../examples/kernels/radii.tpc");
@@ -103,16 +103,16 @@ fn moons_turn_too() {
 #[test]
 fn the_example_kernel_has_one_number_outside_the_class() {
     let mut pool = pool_of(&[]);
-    let line = EXAMPLE
-        .split(|b| *b == b'\n')
-        .position(|line| line.ends_with(b"6.6443009930565219D-09 )"))
+    let value = b"6.6443009930565219D-09 )";
+    let lines = EXAMPLE.split(|b| *b == b'\n');
+    let (place, line) = lines
+        .enumerate()
+        .find(|(_, line)| line.ends_with(value))
         .unwrap();
+    let column = line.len() - value.len() + 1;
     assert_eq!(
         load(&mut pool, 1, EXAMPLE),
-        Err(Refused {
-            refusal: Refusal::Number,
-            line: line as u64 + 1
-        })
+        Err(Refusal::Number.at(place as u64 + 1, column as u64))
     );
     load(&mut pool, 1, EXAMPLE_SHORT).unwrap();
     assert_eq!(radii(&pool, 499), Ok([3397.0, 3397.0, 3375.0]));

@@ -60,16 +60,19 @@ fn strings_are_shown_as_written() {
 
 #[test]
 fn refusals() {
-    lists(b"\\begindata\nX = ( )", "refused 5 line 2\n");
-    lists(b"\\begindata\nX = 1E23", "refused 6 line 2\n");
-    lists(&vec![b'\n'; 65_537], "refused 2 line 0\n");
+    lists(b"\\begindata\nX = ( )", "refused 20 line 2 column 7\n");
+    lists(b"\\begindata\nX = 1E23", "refused 6 line 2 column 5\n");
+    lists(&vec![b'\n'; 65_537], "refused 2 line 0 column 0\n");
     lists(&vec![b'\n'; 65_536], "variables 0\nvalues 0\n");
     let many = format!("\\begindata\n{}", "X=1\n".repeat(513));
-    lists(many.as_bytes(), "refused 7 line 0\n");
-    lists(b"\\begindata\nX = ( 1\n'a' )", "refused 5 line 3\n");
+    lists(many.as_bytes(), "refused 7 line 0 column 0\n");
+    lists(
+        b"\\begindata\nX = ( 1\n'a' )",
+        "refused 19 line 3 column 1\n",
+    );
     let many = format!(
         "\\begindata\nX = (\n{})",
         format!("'{}'\n", "x".repeat(60)).repeat(137)
     );
-    lists(many.as_bytes(), "refused 7 line 0\n");
+    lists(many.as_bytes(), "refused 7 line 0 column 0\n");
 }

@@ -37,6 +37,16 @@ const LABELS: [u32; 20] = [
     u32::MAX,
 ];
 const BODIES: [u32; 5] = [3, 10, 301, 399, 11];
+/// One data section for each fault of a statement.
+const FAULTY: [&str; 7] = [
+    "X = ?",
+    "X = 1\nY = 1E23",
+    "X = ( 1",
+    "X = 'a",
+    "X = 1\n 'Y'",
+    "X",
+    "X = 1 2",
+];
 const WORDS_OF_A_BODY: [&str; 8] = [
     "POLE_RA",
     "POLE_DEC",
@@ -51,7 +61,7 @@ const WORDS_OF_A_BODY: [&str; 8] = [
 #[test]
 fn a_pool_answers_as_its_texts_do() {
     let mut random = Random(7);
-    let mut met = [0u32; 17];
+    let mut met = [0u32; 22];
     for _ in 0..HISTORIES {
         let mut memory = vec![random.below(u64::MAX); WORDS];
         make_empty(&mut memory).unwrap();
@@ -62,7 +72,9 @@ fn a_pool_answers_as_its_texts_do() {
         }
     }
     println!("answers by number: {met:?}");
-    for number in [0, 1, 2, 5, 6, 7, 8, 9, 10, 11, 12, 13, 14, 16] {
+    for number in [
+        0, 1, 2, 6, 7, 8, 9, 10, 11, 12, 13, 14, 16, 17, 18, 19, 20, 21,
+    ] {
         assert!(met[number] > 0, "{number} is never met");
     }
 }
@@ -408,7 +420,7 @@ fn random_text(random: &mut Random) -> Vec<u8> {
         }
         10 => text = "\n".repeat(65_530 + random.below(12) as usize),
         11..=12 => add_strings(&mut text, random),
-        _ => text.push_str(random.one(&["X = ?", "X = 1\nY = 1E23", "X = ( 1", "X = 'a"])),
+        _ => text.push_str(random.one(&FAULTY)),
     }
     text.into_bytes()
 }

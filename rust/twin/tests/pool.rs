@@ -50,8 +50,13 @@ fn held(texts: usize, statements: usize, values: usize) -> Result<Totals, Refuse
     })
 }
 
-fn at(refusal: Refusal, line: u64) -> Result<(), Refused> {
-    Err(Refused { refusal, line })
+fn at(refusal: Refusal, line: u64, column: u64) -> Result<(), Refused> {
+    Err(refusal.at(line, column))
+}
+
+/// A refusal that has no place in a text.
+fn alone(refusal: Refusal) -> Result<(), Refused> {
+    Err(refusal.into())
 }
 
 /// A call is refused, and every word stays.
@@ -277,13 +282,13 @@ fn the_room_of_strings() {
     refuses(
         &mut pool,
         |p| load(p, 1, &captions(8193)),
-        at(Refusal::NoRoom, 0),
+        alone(Refusal::NoRoom),
     );
     load(&mut pool, 1, &captions(8192)).unwrap();
     refuses(
         &mut pool,
         |p| load(p, 2, &captions(1)),
-        at(Refusal::NoRoom, 0),
+        alone(Refusal::NoRoom),
     );
     load(&mut pool, 2, &data("E = ( '' '' )\nN = 1")).unwrap();
     assert_eq!(string_at(&pool, "C", 137), Ok("c".repeat(32)));
@@ -292,19 +297,23 @@ fn the_room_of_strings() {
     refuses(
         &mut pool,
         |p| load(p, 3, &data("C = ''''''")),
-        at(Refusal::NoRoom, 0),
+        alone(Refusal::NoRoom),
     );
     // What is shadowed takes room too, and a doubled quote takes one byte of it.
     load(&mut pool, 3, &data("C = ''''")).unwrap();
     refuses(
         &mut pool,
         |p| load(p, 4, &data("C = 'c'")),
-        at(Refusal::NoRoom, 0),
+        alone(Refusal::NoRoom),
     );
     assert_eq!(string_at(&pool, "C", 1), Ok("'".to_string()));
     // A fault of the text comes first.
     let faulty = [&captions(2)[..], b"?"].concat();
-    refuses(&mut pool, |p| load(p, 4, &faulty), at(Refusal::Syntax, 3));
+    refuses(
+        &mut pool,
+        |p| load(p, 4, &faulty),
+        at(Refusal::BadName, 3, 1),
+    );
 }
 
 #[test]
@@ -314,13 +323,13 @@ fn strings_count_as_values() {
     refuses(
         &mut pool,
         |p| load(p, 1, &list(3073)),
-        at(Refusal::NoRoom, 0),
+        alone(Refusal::NoRoom),
     );
     load(&mut pool, 1, &list(3071)).unwrap();
     refuses(
         &mut pool,
         |p| load(p, 2, &data("B = ( 1 2 )")),
-        at(Refusal::NoRoom, 0),
+        alone(Refusal::NoRoom),
     );
     load(&mut pool, 2, &data("B = 1")).unwrap();
     assert_eq!(totals(&pool), held(2, 2, 3072));
@@ -354,42 +363,42 @@ fn refusals_of_a_load_come_in_order() {
     refuses(
         &mut pool,
         |p| load(p, 1, &too_long),
-        at(Refusal::LabelHeld, 0),
+        alone(Refusal::LabelHeld),
     );
     refuses(
         &mut pool,
         |p| load(p, 2, &too_long),
-        at(Refusal::TextTooLong, 0),
+        alone(Refusal::TextTooLong),
     );
     let long_line = data(&"?".repeat(133));
     refuses(
         &mut pool,
         |p| load(p, 2, &long_line),
-        at(Refusal::LineTooLong, 2),
+        at(Refusal::LineTooLong, 2, 133),
     );
     let many = "A=1\n".repeat(512);
     refuses(
         &mut pool,
         |p| load(p, 2, &data(&many)),
-        at(Refusal::NoRoom, 0),
+        alone(Refusal::NoRoom),
     );
     let many_and_faulty = many + "?";
     refuses(
         &mut pool,
         |p| load(p, 2, &data(&many_and_faulty)),
-        at(Refusal::Syntax, 514),
+        at(Refusal::BadName, 514, 1),
     );
     refuses(
         &mut pool,
         |p| load(p, 2, &data("X = 1 \u{1}")),
-        at(Refusal::BadByte, 2),
+        at(Refusal::BadByte, 2, 7),
     );
     refuses(
         &mut pool,
         |p| load(p, 2, &data("\nX = 1E99")),
-        at(Refusal::Number, 3),
+        at(Refusal::Number, 3, 5),
     );
-    refuses(&mut pool, |p| remove(p, 2), at(Refusal::NotHeld, 0));
+    refuses(&mut pool, |p| remove(p, 2), alone(Refusal::NotHeld));
 }
 
 #[test]
@@ -398,7 +407,7 @@ fn each_limit_of_the_room() {
     for label in 0..16 {
         load(&mut pool, label, b"").unwrap();
     }
-    refuses(&mut pool, |p| load(p, 16, b""), at(Refusal::NoRoom, 0));
+    refuses(&mut pool, |p| load(p, 16, b""), alone(Refusal::NoRoom));
     remove(&mut pool, 3).unwrap();
     assert_eq!(load(&mut pool, 16, b""), Ok(()));
 
@@ -407,13 +416,13 @@ fn each_limit_of_the_room() {
     refuses(
         &mut pool,
         |p| load(p, 1, &statements(513)),
-        at(Refusal::NoRoom, 0),
+        alone(Refusal::NoRoom),
     );
     load(&mut pool, 1, &statements(511)).unwrap();
     refuses(
         &mut pool,
         |p| load(p, 2, &statements(2)),
-        at(Refusal::NoRoom, 0),
+        alone(Refusal::NoRoom),
     );
     load(&mut pool, 2, &statements(1)).unwrap();
     assert_eq!(totals(&pool), held(2, 512, 512));
@@ -423,10 +432,10 @@ fn each_limit_of_the_room() {
     refuses(
         &mut pool,
         |p| load(p, 1, &list(3073)),
-        at(Refusal::NoRoom, 0),
+        alone(Refusal::NoRoom),
     );
     load(&mut pool, 1, &list(3071)).unwrap();
-    refuses(&mut pool, |p| load(p, 2, &list(2)), at(Refusal::NoRoom, 0));
+    refuses(&mut pool, |p| load(p, 2, &list(2)), alone(Refusal::NoRoom));
     load(&mut pool, 2, &list(1)).unwrap();
     assert_eq!(totals(&pool), held(2, 2, 3072));
 }
@@ -441,7 +450,7 @@ fn a_text_of_the_limit_s_length_is_loaded() {
 /// Every call but make empty refuses, and nothing changes.
 #[track_caller]
 fn is_damaged(pool: &mut [u64]) {
-    let damaged = at(Refusal::DamagedPool, 0);
+    let damaged = alone(Refusal::DamagedPool);
     refuses(pool, |p| load(p, 1, b"?"), damaged);
     refuses(pool, |p| remove(p, 1), damaged);
     refuses(pool, clear, damaged);
@@ -465,7 +474,7 @@ fn memory_of_another_size_is_damaged() {
     for size in [0, 1, 4, 5651, 6675, 6677, 10_000] {
         let mut pool = vec![0; size];
         is_damaged(&mut pool);
-        refuses(&mut pool, make_empty, at(Refusal::DamagedPool, 0));
+        refuses(&mut pool, make_empty, alone(Refusal::DamagedPool));
     }
 }
 

@@ -46,7 +46,7 @@ fn texts_keep_their_bounds_and_meet_every_answer() {
     assert!(input.len() <= INPUT_BYTES);
     let answers = lines(&twin("texts", &input));
     assert!(answers.len() >= 320);
-    for number in ["0", "3", "4", "5", "6"] {
+    for number in ["0", "3", "4", "6", "17", "18", "19", "20", "21"] {
         let met = answers
             .iter()
             .filter(|line| line.split(' ').nth(1) == Some(number));
@@ -62,7 +62,13 @@ fn histories_keep_their_bounds_and_meet_every_answer() {
     assert!(answers.len() >= 400);
     for (call, place, numbers) in [
         ("empty", 1, &["0", "15"][..]),
-        ("load", 2, &["0", "1", "2", "3", "4", "5", "6", "7", "15"]),
+        (
+            "load",
+            2,
+            &[
+                "0", "1", "2", "3", "4", "6", "7", "15", "17", "18", "19", "20", "21",
+            ],
+        ),
         ("remove", 2, &["0", "8", "15"]),
         ("clear", 1, &["0", "15"]),
         ("fetch", 2, &["0", "13", "14", "15", "16"]),
@@ -81,10 +87,13 @@ fn histories_keep_their_bounds_and_meet_every_answer() {
 
 #[test]
 fn the_listing_refuses_a_longer_input() {
-    assert_eq!(twin("listing", &vec![b'\n'; 65_537]), b"refused 2 line 0\n");
+    assert_eq!(
+        twin("listing", &vec![b'\n'; 65_537]),
+        b"refused 2 line 0 column 0\n"
+    );
     assert_eq!(
         twin("listing", &vec![b'\n'; 500_000]),
-        b"refused 2 line 0\n"
+        b"refused 2 line 0 column 0\n"
     );
     assert_eq!(
         twin("listing", &vec![b'\n'; 65_536]),

@@ -4,8 +4,8 @@ use twin::refusal::Refusal;
 use twin::string::written;
 use twin::text::{read, Operator, Value};
 
-/// Statements as `name op values`, or number and line of the refusal.
-fn told(text: impl AsRef<[u8]>) -> Result<Vec<String>, (u32, u64)> {
+/// Statements as `name op values`, or number, line and column of the refusal.
+fn told(text: impl AsRef<[u8]>) -> Result<Vec<String>, (u32, u64, u64)> {
     match read(text.as_ref()) {
         Ok(statements) => Ok(statements
             .iter()
@@ -22,7 +22,7 @@ fn told(text: impl AsRef<[u8]>) -> Result<Vec<String>, (u32, u64)> {
                 )
             })
             .collect()),
-        Err(refused) => Err((refused.refusal.number(), refused.line)),
+        Err(refused) => Err((refused.refusal.number(), refused.line, refused.column)),
     }
 }
 
@@ -43,19 +43,41 @@ fn admitted(text: impl AsRef<[u8]>, statements: &[&str]) {
     assert_eq!(told(text), Ok(expected));
 }
 
+/// A text is refused at the place of its first `|`, which is no part of it.
 #[track_caller]
-fn refused(text: impl AsRef<[u8]>, refusal: Refusal, line: u64) {
-    assert_eq!(told(text), Err((refusal.number(), line)));
+fn refused(marked: impl AsRef<[u8]>, refusal: Refusal) {
+    let marked = marked.as_ref();
+    let place = marked.iter().position(|b| *b == b'|').unwrap();
+    let (before, after) = (&marked[..place], &marked[place + 1..]);
+    let line = 1 + before.iter().filter(|b| **b == b'\n').count() as u64;
+    let column = 1 + before.iter().rev().take_while(|b| **b != b'\n').count() as u64;
+    let expected = Err((refusal.number(), line, column));
+    let shown = String::from_utf8_lossy(marked);
+    assert_eq!(told([before, after].concat()), expected, "{shown}");
 }
 
-use Refusal::{BadByte, LineTooLong, Number, Syntax};
+/// Each line, as the only one of a data section, is refused at its `|`.
+#[track_caller]
+fn all_refused(lines: &[&str], refusal: Refusal) {
+    for line in lines {
+        refused(data(line), refusal);
+    }
+}
+
+/// A text is refused for its line's length: the column is the first over the limit.
+#[track_caller]
+fn too_long(text: impl AsRef<[u8]>, line: u64) {
+    assert_eq!(told(text), Err((3, line, 133)));
+}
+
+use Refusal::{BadByte, BadName, BadValue, NoOperator, Number, OpenList, RestOfLine};
 
 #[test]
 fn marked_texts() {
     admitted("", &[]);
     admitted("X = 1", &[]);
     admitted(data("X = 9007199254740992"), &["X = 9007199254740992"]);
-    refused(data("X = 9007199254740993"), Number, 2);
+    refused(data("X = |9007199254740993"), Number);
     admitted(
         data("X = 1E22\nX = 1.0E23"),
         &[
@@ -63,8 +85,8 @@ fn marked_texts() {
             "X = 100000000000000000000000",
         ],
     );
-    refused(data("X = 1E23"), Number, 2);
-    refused(data("X = ( )"), Syntax, 2);
+    refused(data("X = |1E23"), Number);
+    refused(data("X = ( |)"), OpenList);
 }
 
 #[test]
@@ -86,14 +108,14 @@ fn line_ends() {
     admitted("\\begindata\r\nX = 1\r\nY = 2\r\n", &["X = 1", "Y = 2"]);
     admitted("\\begindata\nX = 1", &["X = 1"]);
     admitted("\\begindata\nX = 1\n", &["X = 1"]);
-    refused("\\begindata\nX = 1\r\r\n", BadByte, 2);
-    refused("\\begindata\nX = 1\r", BadByte, 2);
-    refused("\\begindata\nX = 1 \rY = 2\n", BadByte, 2);
-    refused("\\begindata\n\r", BadByte, 2);
+    refused("\\begindata\nX = 1|\r\r\n", BadByte);
+    refused("\\begindata\nX = 1|\r", BadByte);
+    refused("\\begindata\nX = 1 |\rY = 2\n", BadByte);
+    refused("\\begindata\n|\r", BadByte);
     admitted("\\begindata\n\r\n", &[]);
     admitted("\\begindata\r\r\nX = 1\n", &[]);
     admitted("\\begindata\r", &[]);
-    refused("\\begindata\n\\begintext\r", BadByte, 2);
+    refused("\\begindata\n\\begintext|\r", BadByte);
     admitted("\r", &[]);
 }
 
@@ -106,11 +128,11 @@ fn a_data_line_may_have_132_bytes() {
         &["X = 1"; 2],
     );
     for end in [" ", " \n", " \r\n", "\r", "\r\r\n", "\u{1}\n"] {
-        refused(data(&format!("{statement}{end}")), LineTooLong, 2);
+        too_long(data(&format!("{statement}{end}")), 2);
     }
     let blanks = " ".repeat(133);
-    refused(data(&blanks), LineTooLong, 2);
-    refused(data(&format!("X = ( 1\n{blanks}\n)")), LineTooLong, 3);
+    too_long(data(&blanks), 2);
+    too_long(data(&format!("X = ( 1\n{blanks}\n)")), 3);
     admitted(data(&format!("X = ( 1\n{}\n)", &blanks[1..])), &["X = 1"]);
 }
 
@@ -134,17 +156,17 @@ fn a_delimiter_line_may_have_132_bytes_in_either_section() {
         admitted(format!("{opening}\nX = 1"), &["X = 1"]);
         admitted(format!("{opening}\r\nX = 1"), &["X = 1"]);
         admitted(data(&format!("{closing}\nX = ?")), &[]);
-        refused(data(&format!("X = ( 1\n{closing}\n)")), Syntax, 3);
+        refused(data(&format!("X = ( 1\n|{closing}\n)")), OpenList);
         for pad in [1, 2, 300, 5_000] {
             let pad = " ".repeat(pad);
             for line in [format!("{pad}{opening}"), format!("{opening}{pad}")] {
-                refused(format!("{line}\nX = 1"), LineTooLong, 1);
-                refused(&line, LineTooLong, 1);
-                refused(data(&format!("X = ( 1\n{line}\n)")), LineTooLong, 3);
+                too_long(format!("{line}\nX = 1"), 1);
+                too_long(&line, 1);
+                too_long(data(&format!("X = ( 1\n{line}\n)")), 3);
             }
             for line in [format!("{pad}{closing}"), format!("{closing}{pad}")] {
-                refused(format!("\n{line}\n"), LineTooLong, 2);
-                refused(data(&line), LineTooLong, 2);
+                too_long(format!("\n{line}\n"), 2);
+                too_long(data(&line), 2);
             }
         }
         admitted(format!("{opening} x\nX = 1"), &[]);
@@ -156,9 +178,9 @@ fn a_delimiter_line_may_have_132_bytes_in_either_section() {
 fn a_carriage_return_counts_unless_it_stands_before_a_line_feed() {
     let line = format!("\\begintext{}", " ".repeat(122));
     admitted(data(&format!("{line}\r\n?")), &[]);
-    refused(data(&format!("{line}\r")), LineTooLong, 2);
-    refused(data(&format!("{line}\r\r\n")), LineTooLong, 2);
-    refused(format!("{line} \r\n"), LineTooLong, 1);
+    too_long(data(&format!("{line}\r")), 2);
+    too_long(data(&format!("{line}\r\r\n")), 2);
+    too_long(format!("{line} \r\n"), 1);
     // A carriage return is no blank, so this is text.
     admitted(format!("{line}\r"), &[]);
     admitted(format!("{line} \r"), &[]);
@@ -179,10 +201,10 @@ fn sections_and_their_delimiters() {
     admitted("\\BEGINDATA\nX = 1", &[]);
     admitted("\\begindata\\begindata\nX = 1", &[]);
     admitted("\\begin data\nX = 1", &[]);
-    refused("\\begindata\n\\begintext x\n", Syntax, 2);
-    refused("\\begindata\n\\beginTEXT\n", Syntax, 2);
-    refused("\\begindata\nX = 1 \\begintext\n", Syntax, 2);
-    refused("\\begindata\nX = \\begintext\n", Syntax, 2);
+    refused("\\begindata\n|\\begintext x\n", BadName);
+    refused("\\begindata\n|\\beginTEXT\n", BadName);
+    refused("\\begindata\nX = 1 |\\begintext\n", RestOfLine);
+    refused("\\begindata\nX = |\\begintext\n", BadValue);
 }
 
 #[test]
@@ -194,13 +216,13 @@ fn text_section_bytes_are_unread() {
 #[test]
 fn data_lines_hold_printed_bytes_and_tabs() {
     for byte in 0..=255u8 {
-        let mut text = data("X = 1 ").into_bytes();
-        text.push(byte);
-        text.push(b'Z');
+        let text =
+            |before: &str, behind: &str| [before.as_bytes(), &[byte], behind.as_bytes()].concat();
         match byte {
-            b'\n' => refused(&text, Syntax, 3),
-            b' '..=b'~' | b'\t' => refused(&text, Syntax, 2),
-            _ => refused(&text, BadByte, 2),
+            b'\n' => refused(text("\\begindata\nX = 1 ", "Z|"), NoOperator),
+            b' ' | b'\t' => refused(text("\\begindata\nX = 1 ", "|Z"), RestOfLine),
+            b'!'..=b'~' => refused(text("\\begindata\nX = 1 |", "Z"), RestOfLine),
+            _ => refused(text("\\begindata\nX = 1 |", "Z"), BadByte),
         }
     }
     admitted("\\begindata\n\t \t\n \n\n\tX\t=\t1\t\n", &["X = 1"]);
@@ -210,16 +232,24 @@ fn data_lines_hold_printed_bytes_and_tabs() {
 fn names() {
     let longest = "a".repeat(32);
     admitted(data(&format!("{longest}=1")), &[&format!("{longest} = 1")]);
-    refused(data(&format!("{longest}a=1")), Syntax, 2);
+    refused(data(&format!("|{longest}a=1")), BadName);
+    refused(data(&format!(" \t|{longest}a")), BadName);
     admitted(
         data("9=1\n_=2\na=3\nA=4\nBODY4_PM=5"),
         &["9 = 1", "_ = 2", "a = 3", "A = 4", "BODY4_PM = 5"],
     );
-    for line in [
-        "=1", "+=1", "-A=1", "A-B=1", "A.B=1", "A B=1", "'A'=1", "A(1)=1", "A", "(1)", "A,=1",
-    ] {
-        refused(data(line), Syntax, 2);
-    }
+    all_refused(
+        &[
+            "|=1", "|+=1", " |-A=1", "\t|'A'=1", "|(1)", "|)", "|,A=1", "|?",
+        ],
+        BadName,
+    );
+    all_refused(
+        &[
+            "A|-B=1", "A|.B=1", "A |B=1", "A|(1)=1", "A|", "A|,=1", "A|'=1",
+        ],
+        NoOperator,
+    );
 }
 
 #[test]
@@ -234,21 +264,55 @@ fn operators() {
         data("X=+1\nX=-1\nX+=+1\nX+=-1"),
         &["X = 1", "X = -1", "X += 1", "X += -1"],
     );
-    for line in [
-        "X", "X 1", "X + = 1", "X == 1", "X = = 1", "X += = 1", "X =+= 1", "X -= 1", "X ++= 1",
-        "X : 1", "X +", "X (1)",
-    ] {
-        refused(data(line), Syntax, 2);
-    }
+    all_refused(
+        &[
+            "X|",
+            "X |",
+            "X  \t|",
+            "X |1",
+            "X |+ = 1",
+            "X |-= 1",
+            "X\t|++= 1",
+            "X |: 1",
+            "X |+",
+            "X|+",
+            "X |(1)",
+            "X|+1",
+            "X|\r\nY = 1",
+        ],
+        NoOperator,
+    );
+    all_refused(
+        &[
+            "X =|= 1",
+            "X = |= 1",
+            "X += |= 1",
+            "X =|+= 1",
+            "X +=|+= 1",
+            "X =|> 1",
+        ],
+        BadValue,
+    );
 }
 
 #[test]
 fn name_operator_and_value_stand_on_one_line() {
-    refused(data("X\n= 1"), Syntax, 2);
-    refused(data("X =\n1"), Syntax, 2);
-    refused(data("X =\n( 1 )"), Syntax, 2);
-    refused(data("X +\n= 1"), Syntax, 2);
-    refused(data("X = "), Syntax, 2);
+    all_refused(&["X|\n= 1", "X |\n= 1", "X |+\n= 1"], NoOperator);
+    all_refused(
+        &[
+            "X =|\n1",
+            "X = |\n( 1 )",
+            "X =   |",
+            "X =\t|\r\n1",
+            "X +=|",
+            "X=|",
+        ],
+        BadValue,
+    );
+    // One past a line of 132 bytes.
+    let blanks = " ".repeat(130);
+    refused(data(&format!("X={blanks}|")), BadValue);
+    refused(data(&format!("X {blanks}|\r\n")), NoOperator);
 }
 
 #[test]
@@ -267,87 +331,123 @@ fn lists() {
     admitted(data("X = (\n1\n\n 2,\n,\t\n,3\n)"), &["X = 1 2 3"]);
     admitted(data("X += (\r\n1\r\n)\r\nY = 2"), &["X += 1", "Y = 2"]);
     admitted(data("X = ( 1\n2 )  \t\nY=3"), &["X = 1 2", "Y = 3"]);
-    for line in ["X = ( )", "X = ()", "X = (,)", "X = ( , \t )"] {
-        refused(data(line), Syntax, 2);
-    }
-    refused(data("X = (\n,\n)"), Syntax, 4);
-    for line in [
-        "X = ((1))",
-        "X = ( 1 ( 2 ) )",
-        "X = ( (",
-        "X = 1(",
-        "X = 1 (2)",
-        "X = (1(2)",
-    ] {
-        refused(data(line), Syntax, 2);
-    }
-    refused(data("X = (1\n(2)"), Syntax, 3);
+    all_refused(
+        &[
+            "X = ( |)",
+            "X = (|)",
+            "X = (,|)",
+            "X = ( , \t |)",
+            "X = (,,|) ?",
+            "X = (|))",
+            "X = (|)(",
+            "X = (\n,\n|)",
+            "X = (\n |) 1",
+        ],
+        OpenList,
+    );
+    all_refused(
+        &[
+            "X = (|(1))",
+            "X = ( 1 |( 2 ) )",
+            "X = ( |(",
+            "X = (1|(2)",
+            "X = (1\n|(2)",
+            "X = (,\n ,|()",
+            "X = |)",
+            "X = |,1",
+            "X =|,",
+            "X = |, (1)",
+        ],
+        BadValue,
+    );
+    all_refused(&["X = 1|(", "X = 1 |(2)"], RestOfLine);
 }
 
 #[test]
 fn after_a_statement_only_blanks_follow() {
     admitted(data("X = 1 \t \nX = ( 1 ) \t"), &["X = 1", "X = 1"]);
-    for line in [
-        "X = 1,",
-        "X = 1 ,",
-        "X = 1 2",
-        "X = 1)",
-        "X = 1 )",
-        "X = (1),",
-        "X = (1) 2",
-        "X = (1))",
-        "X = (1)2",
-        "X = 1 Y = 2",
-        "X = (1) Y = 2",
-        "X = 1 #",
-        "X = , 1",
-        "X = ,",
-    ] {
-        refused(data(line), Syntax, 2);
-    }
-    refused(data("X = ( 1\n) Y = 2"), Syntax, 3);
+    all_refused(
+        &[
+            "X = 1|,",
+            "X = 1 \t|,",
+            "X = 1 |2",
+            "X = 1|)",
+            "X = 1 |)",
+            "X = (1)|,",
+            "X = (1)  |2",
+            "X = (1)|)",
+            "X = (1)|2",
+            "X = 1 |Y = 2",
+            "X = (1) |Y = 2",
+            "X = 1 |#",
+            "X = ( 1\n) |Y = 2",
+            "X = ( 1\n2)|'a",
+        ],
+        RestOfLine,
+    );
 }
 
 #[test]
 fn delimiters_and_the_end_inside_a_list() {
-    refused(data("X = ( 1\n\\begintext\n)"), Syntax, 3);
-    refused(data("X = ( 1\n\\begindata\n)"), Syntax, 3);
-    refused(data("X = ( 1\n \\begintext x\n)"), Syntax, 3);
-    refused(data("X = ( 1"), Syntax, 2);
-    refused(data("X = ( 1\n"), Syntax, 2);
-    refused(data("X = ("), Syntax, 2);
-    refused(data("X = ( 1\n\n\n"), Syntax, 4);
-    refused(data("X = ( 1\n\n "), Syntax, 4);
+    all_refused(
+        &[
+            "X = ( 1\n|\\begintext\n)",
+            "X = ( 1\n|\\begindata\n)",
+            "X = (\n| \t\\begintext \n)",
+        ],
+        OpenList,
+    );
+    refused(data("X = ( 1\n |\\begintext x\n)"), BadValue);
+    // One past the last line; after a final LF there is no further one.
+    all_refused(
+        &[
+            "X = ( 1|",
+            "X = ( 1|\n",
+            "X = ( 1|\r\n",
+            "X = (|",
+            "X = ( 1  |",
+            "X = ( 1\n|\n",
+            "X = ( 1\n\n|\n",
+            "X = ( 1\n\n |",
+            "X = ( 1\r\n\t,|\r\n",
+        ],
+        OpenList,
+    );
+    let blanks = " ".repeat(131);
+    refused(data(&format!("X = ( 1\n{blanks},|\r\n")), OpenList);
+    refused(data(&format!("X = ( 1\n{blanks},|")), OpenList);
 }
 
 #[test]
 fn the_order_of_faults_in_a_line() {
     let long_and_bad = format!("X = 1E99 \u{1}{}", " ".repeat(133));
-    refused(data(&long_and_bad), LineTooLong, 2);
-    refused(data("X = 1E99 \u{1}"), BadByte, 2);
-    refused(data("X = ? \u{7f}"), BadByte, 2);
-    refused(data("X = 1E99 junk"), Number, 2);
-    refused(data("X = 1E99,"), Number, 2);
-    refused(data("X = ( 1E99"), Number, 2);
-    refused(data("X = ( 1E99 ( "), Number, 2);
-    refused(data("X = ( 1E99 a )"), Number, 2);
-    refused(data("X = ( a 1E99 )"), Syntax, 2);
-    refused(data("X = ( ( 1E99 )"), Syntax, 2);
-    refused(data("X X = 1E99"), Syntax, 2);
-    refused(data("X = 1 1E99"), Syntax, 2);
-    refused(data("X = 1E99E"), Syntax, 2);
-    refused(data("X = ( 1E99(2) )"), Number, 2);
+    too_long(data(&long_and_bad), 2);
+    refused(data("X = 1E99 |\u{1}"), BadByte);
+    refused(data("X = ? |\u{7f}\u{1}"), BadByte);
+    refused(data("X = |1E99 junk"), Number);
+    refused(data("X = |1E99,"), Number);
+    refused(data("X =|-1E99"), Number);
+    refused(data("X = ( 1, |+1E99 )"), Number);
+    refused(data("X = ( |1E99"), Number);
+    refused(data("X = ( |1E99 ( "), Number);
+    refused(data("X = ( |1E99 a )"), Number);
+    refused(data("X = ( |a 1E99 )"), BadValue);
+    refused(data("X = ( |( 1E99 )"), BadValue);
+    refused(data("X |X = 1E99"), NoOperator);
+    refused(data("X = 1 |1E99"), RestOfLine);
+    refused(data("X = |1E99E"), BadValue);
+    refused(data("X = ( |1E99(2) )"), Number);
 }
 
 #[test]
 fn the_first_faulty_line_decides() {
-    refused(data("X = 1E99\n?\n\u{1}"), Number, 2);
-    refused(data("?\nX = 1E99"), Syntax, 2);
-    refused(data("\u{1}\n?"), BadByte, 2);
+    refused(data("X = |1E99\n?\n\u{1}"), Number);
+    refused(data("|?\nX = 1E99"), BadName);
+    refused(data("|\u{1}\n?"), BadByte);
     let long = "x".repeat(133);
-    refused(data(&format!("X = (1\n{long}\n?")), LineTooLong, 3);
-    refused(data(&format!("?\n{long}")), Syntax, 2);
-    refused(format!("{long}\n\\begindata\n?"), Syntax, 3);
+    too_long(data(&format!("X = (1\n{long}\n?")), 3);
+    refused(data(&format!("|?\n{long}")), BadName);
+    refused(format!("{long}\n\\begindata\n|?"), BadName);
 }
 
 #[test]
@@ -419,10 +519,10 @@ fn every_byte_of_a_data_line_may_stand_in_a_string() {
         assert_eq!(strings(&format!("X = '{inside}'")), [byte.to_string()]);
     }
     for byte in [1, 8, 11, 13, 31, 127] {
-        refused(data(&format!("X = 'a{}b'", char::from(byte))), BadByte, 2);
+        refused(data(&format!("X = 'a|{}b'", char::from(byte))), BadByte);
     }
-    refused(b"\\begindata\nX = '\xe9'", BadByte, 2);
-    refused(data("X = ?\u{1}'"), BadByte, 2);
+    refused(b"\\begindata\nX = '|\xe9'", BadByte);
+    refused(data("X = ?|\u{1}'"), BadByte);
 }
 
 #[test]
@@ -433,42 +533,39 @@ fn a_string_has_up_to_60_bytes_after_undoubling() {
             assert_eq!(strings(&line), [byte.repeat(length)]);
         }
         for length in [61, 62] {
-            refused(
-                data(&format!("X = '{}'", written.repeat(length))),
-                Syntax,
-                2,
-            );
+            let string = written.repeat(length);
+            refused(data(&format!("X = |'{string}'")), BadValue);
         }
     }
     let mixed = format!("X = '{}{}'", "''".repeat(30), "x".repeat(30));
     assert_eq!(strings(&mixed)[0].len(), 60);
-    refused(data(&mixed.replacen("x", "xx", 1)), Syntax, 2);
-    refused(
-        data(&format!("X = ( 'a'\n'{}' )", "x".repeat(61))),
-        Syntax,
-        3,
-    );
+    let longer = mixed.replacen("X = ", "X = |", 1).replacen("x", "xx", 1);
+    refused(data(&longer), BadValue);
+    let longest = "x".repeat(61);
+    refused(data(&format!("X = ( 'a'\n,|'{longest}' )")), BadValue);
 }
 
 #[test]
 fn a_string_is_closed_on_its_line() {
-    for line in [
-        "X = '",
-        "X = 'a",
-        "X = '''",
-        "X = 'a''",
-        "X = ('a' 'b",
-        "X = ('a' ')",
-        "X = 'a)",
-        "X = ('",
-        "X = 'a\n'",
-        "X = ('a\n')",
-        "X = '''''",
-    ] {
-        refused(data(line), Syntax, 2);
-    }
-    refused(data("X = ( 'a'\n'b\n)"), Syntax, 3);
-    refused(data("X = 'a\r'\n"), BadByte, 2);
+    all_refused(
+        &[
+            "X = |'",
+            "X = |'a",
+            "X = |'''",
+            "X =|'a''",
+            "X = ('a' |'b",
+            "X = ('a' |')",
+            "X = |'a)",
+            "X = (|'",
+            "X = |'a\n'",
+            "X = (|'a\n')",
+            "X = |'''''",
+            "X = ('it''s' |'b",
+            "X = ( 'a'\n|'b\n)",
+        ],
+        BadValue,
+    );
+    refused(data("X = 'a|\r'\n"), BadByte);
 }
 
 #[test]
@@ -476,70 +573,78 @@ fn a_blank_comma_bracket_or_line_end_follows_a_string() {
     admitted(data("X = 'a'"), &["X = 'a'"]);
     admitted(data("X = ('a','b'\t'c')"), &["X = 'a' 'b' 'c'"]);
     // Passed by the string, and then refused by the statement.
-    for line in [
-        "X = 'a')",
-        "X = 'a'(",
-        "X = 'a',",
-        "X = 'a' 'b'",
-        "X = 'a' 1",
-        "X = ('a'('b'))",
-    ] {
-        refused(data(line), Syntax, 2);
-    }
-    for line in [
-        "X = 'a'b",
-        "X = 'a'1",
-        "X = 'a'.",
-        "X = 'a'=",
-        "X = 'a'\"",
-        "X = ('a'b)",
-        "X = ('a'1)",
-        "X = ('a'+'b')",
-        "X = 'a';",
-    ] {
-        refused(data(line), Syntax, 2);
-    }
+    all_refused(
+        &[
+            "X = 'a'|)",
+            "X = 'a'|(",
+            "X = 'a'|,",
+            "X = 'a' |'b'",
+            "X = 'a' |1",
+            "X = 'it''s' |1",
+        ],
+        RestOfLine,
+    );
+    all_refused(
+        &[
+            "X = ('a'|('b'))",
+            "X = |'a'b",
+            "X = |'a'1",
+            "X = |'a'.",
+            "X = |'a'=",
+            "X = |'a'\"",
+            "X = (|'a'b)",
+            "X = (|'a'1)",
+            "X = ('a' |'b'+'c')",
+            "X = |'a';",
+        ],
+        BadValue,
+    );
 }
 
 #[test]
 fn only_a_first_quote_makes_a_string() {
-    for line in [
-        "X = 1'a'",
-        "X = +'a'",
-        "X = 1'",
-        "X = a'b'",
-        "X = 1'a b'",
-        "X = (1'2)",
-        "'X' = 1",
-        "X' = 1",
-        "X 'a'",
-        "X '= 1'",
-        "X = \"a\"",
-        "'",
-    ] {
-        refused(data(line), Syntax, 2);
-    }
+    all_refused(
+        &[
+            "X = |1'a'",
+            "X = |+'a'",
+            "X = |1'",
+            "X = |a'b'",
+            "X = |1'a b'",
+            "X = (|1'2)",
+            "X = |\"a\"",
+        ],
+        BadValue,
+    );
+    all_refused(&["|'X' = 1", "|'"], BadName);
+    all_refused(&["X|' = 1", "X |'a'", "X |'= 1'"], NoOperator);
 }
 
 #[test]
 fn a_list_is_all_numbers_or_all_strings() {
-    for line in [
-        "X = ( 1 'a' )",
-        "X = ( 'a' 1 )",
-        "X = ( 'a' 'b' 1 )",
-        "X = ( 1 2 'a' )",
-        "X = ( 1 '' )",
-    ] {
-        refused(data(line), Syntax, 2);
-    }
-    refused(data("X = ( 1\n2\n'a'\n)"), Syntax, 4);
-    refused(data("X = ( 'a'\n\n1 )"), Syntax, 4);
+    all_refused(
+        &[
+            "X = ( 1 |'a' )",
+            "X = ( 'a' |1 )",
+            "X = ( 'a' 'b' |1 )",
+            "X = ( 1 2 |'a' )",
+            "X = ( 1 |'' )",
+            "X = ( 1\n2\n|'a'\n)",
+            "X = ( 'a'\n\n|1 )",
+        ],
+        BadValue,
+    );
     // The second kind is a fault before its value is looked at, the first kind is not.
-    refused(data("X = ( 'a' 1E99 )"), Syntax, 2);
-    refused(data("X = ( 'a'\n1E99 )"), Syntax, 3);
-    refused(data("X = ( 1E99 'a' )"), Number, 2);
-    refused(data("X = ( 1 'a )"), Syntax, 2);
-    refused(data("X = ( 1 2E99 'a"), Number, 2);
+    all_refused(
+        &[
+            "X = ( 'a' |1E99 )",
+            "X = ( 'a'\n |1E99 )",
+            "X = ( 'a' |-1E99",
+            "X = ( 1 |'a )",
+        ],
+        BadValue,
+    );
+    refused(data("X = ( |1E99 'a' )"), Number);
+    refused(data("X = ( 1 |2E99 'a"), Number);
     admitted(
         data("X = 1\nX += 'a'\nX += 2"),
         &["X = 1", "X += 'a'", "X += 2"],
@@ -549,10 +654,10 @@ fn a_list_is_all_numbers_or_all_strings() {
 #[test]
 fn quotes_open_nothing_outside_of_values() {
     admitted("'\n\\begindata\nX = 'a'\n\\begintext\n'''\n", &["X = 'a'"]);
-    refused(data("X = ( 'a'\n\\begintext\n)"), Syntax, 3);
-    refused(data("X = ( 'a'"), Syntax, 2);
-    refused(data("X = ( 'a'\n\n"), Syntax, 3);
+    refused(data("X = ( 'a'\n|\\begintext\n)"), OpenList);
+    refused(data("X = ( 'a'|"), OpenList);
+    refused(data("X = ( 'a'\n|\n"), OpenList);
     let longest = format!("X = '{}'{}", "''".repeat(60), " ".repeat(6));
     admitted(data(&longest), &[longest.trim_end()]);
-    refused(data(&format!("{longest} ")), LineTooLong, 2);
+    too_long(data(&format!("{longest} ")), 2);
 }

@@ -90,10 +90,13 @@ fn write_change(out: &mut impl Write, call: &str, answer: Result<(), Refused>) -
     Ok(answer.is_ok())
 }
 
-/// A load's answer: label, number and line.
+/// A load's answer: label, number, line and column.
 fn write_load(out: &mut impl Write, label: u32, answer: Result<(), Refused>) -> io::Result<bool> {
-    let line = answer.err().map_or(0, |refused| refused.line);
-    writeln!(out, "load {label} {} {line}", refusal_number(&answer))?;
+    let (line, column) = answer
+        .err()
+        .map_or((0, 0), |refused| (refused.line, refused.column));
+    let number = refusal_number(&answer);
+    writeln!(out, "load {label} {number} {line} {column}")?;
     Ok(answer.is_ok())
 }
 

@@ -190,6 +190,16 @@ fn text_faults(s: &mut Script) {
         data("X = 2\nY = 3\nZ = ( 1 2\n3 1E99 )"),
         data("X = 2\n\n\nX = ( 1\n\n\n"),
         data("X = 1E99 \u{1}"),
+        data("X = 2\n \t'Y' = 3"),
+        data(&format!("X = 2\n{LONG}9 = 3")),
+        data("X = 2\r\nY  -Z = 3"),
+        data("X = 2\nY  \t"),
+        data("X = 2\n\tY = (3 (4))"),
+        data("X = 2\nY =   \r\n3"),
+        data("X = 2\nY = ( 3\n  \\begintext\n)"),
+        data("X = ( 2 3 4 \r\n"),
+        data("X = ( 2\n3 ) \t 4"),
+        data("X = 2,"),
     ] {
         s.load(2, &text);
         s.load(1, &text);

@@ -9,6 +9,7 @@ pub mod orientations;
 pub mod random;
 pub mod script;
 pub mod stream;
+pub mod text_places;
 pub mod text_samples;
 pub mod text_strings;
 pub mod texts;

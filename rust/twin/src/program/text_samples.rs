@@ -1,11 +1,11 @@
-//! The texts that readers are compared on: every rule of document 01's "Text rules" and of K1 and K2
+//! The texts that readers are compared on: every rule of document 01's "Text rules" and of K1 to K3
 //! of document 02, their faults and limits on both sides, kernels of the source documents, and
 //! mixtures of all that.
 
 use twin::limits::TEXT_BYTES;
 
 use super::random::Random;
-use super::text_strings;
+use super::{text_places, text_strings};
 
 const KERNELS: [&[u8]; 8] = [
     include_bytes!("../../../../examples/kernels/planets.tpc"),
@@ -391,6 +391,7 @@ pub fn samples() -> Vec<Vec<u8>> {
     add_bytes(&mut texts);
     add_long_texts(&mut texts);
     text_strings::add(&mut texts);
+    text_places::add(&mut texts);
     texts.extend(KERNELS.iter().map(|kernel| kernel.to_vec()));
     texts.push(with_carriage_returns(KERNELS[0]));
     let mut random = Random(5);

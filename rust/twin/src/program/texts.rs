@@ -18,7 +18,7 @@ pub fn write_input(out: &mut impl Write) -> io::Result<()> {
     Ok(())
 }
 
-/// For each text its place in the stream, the refusal's number and line, and the counts.
+/// For each text its place in the stream, the refusal's number, line and column, and the counts.
 pub fn write(input: &[u8], out: &mut impl Write) -> io::Result<()> {
     let mut stream = Stream::new(input);
     let mut place = 0;
@@ -28,11 +28,12 @@ pub fn write(input: &[u8], out: &mut impl Write) -> io::Result<()> {
         match text::read(text) {
             Ok(statements) => {
                 let values: usize = statements.iter().map(|s| s.values.len()).sum();
-                writeln!(out, "{place} 0 0 {} {values}", statements.len())?;
+                writeln!(out, "{place} 0 0 0 {} {values}", statements.len())?;
             }
             Err(refused) => {
                 let number = refused.refusal.number();
-                writeln!(out, "{place} {number} {} 0 0", refused.line)?;
+                let (line, column) = (refused.line, refused.column);
+                writeln!(out, "{place} {number} {line} {column} 0 0")?;
             }
         }
     }
