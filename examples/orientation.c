@@ -1,7 +1,7 @@
 /*
  * orientation: loads a text PCK kernel and prints how a body is oriented and how large it is, by
  * the kernel and by the built-in table, and the captions that the kernel has for it: the strings of
- * BODYn_CAPTION.
+ * BODYn_CAPTION. Of a kernel that is refused it prints the faulty line, a caret under the column.
  *
  *     orientation [KERNEL [BODY [EPOCH]]]
  *
@@ -24,6 +24,9 @@ static uint64_t pool[GLOBE_POOL_WORDS];
 /* One byte more than the longest text, so that a longer file is refused and never cut short. */
 static uint8_t text[GLOBE_TEXT_BYTES + 1];
 
+/* The most bytes that are shown of a line: no fault is further behind. */
+enum { SHOWN = 133 };
+
 /* What a refusal is called, and what to do about it. */
 static const struct {
     const char *name, *advice;
@@ -32,8 +35,6 @@ static const struct {
     [GLOBE_TEXT_TOO_LONG] = {"TEXT TOO LONG", "split the text: one has at most 65,536 bytes"},
     [GLOBE_LINE_TOO_LONG] = {"LINE TOO LONG", "break the line: a data line has at most 132 bytes"},
     [GLOBE_BAD_BYTE] = {"BAD BYTE", "retype the line in plain letters, digits, signs and blanks"},
-    [GLOBE_SYNTAX] = {"SYNTAX", "write NAME = NUMBER or NAME = ( NUMBERS ), or += in place of =, "
-                                "or strings in single quotes in place of all the numbers"},
     [GLOBE_NUMBER] = {"NUMBER", "shorten the number: it has too many digits or too large a power"},
     [GLOBE_NO_ROOM] = {"NO ROOM", "remove a text: there is room for 16 texts, 512 statements, "
                                   "3,072 values and 8,192 bytes of strings"},
@@ -52,22 +53,29 @@ static const struct {
     [GLOBE_DAMAGED_POOL] = {"DAMAGED POOL", "make the pool empty and load its texts again"},
     [GLOBE_MIXED_KIND] = {"MIXED KIND", "take a string away from the numbers, or a number from the "
                                         "strings"},
+    [GLOBE_BAD_NAME] = {"BAD NAME", "begin the line with a name of at most 32 letters, digits and "
+                                    "underscores"},
+    [GLOBE_NO_OPERATOR] = {"NO OPERATOR", "write = or += after the name"},
+    [GLOBE_BAD_VALUE] = {"BAD VALUE", "write a number here, or a string of at most 60 bytes in "
+                                      "single quotes; a list has one kind of them"},
+    [GLOBE_OPEN_LIST] = {"OPEN LIST", "give the list a value and close it with a )"},
+    [GLOBE_REST_OF_LINE] = {"REST OF LINE", "take this away, or begin a new line before it"},
 };
 
-static bool was_refused(uint32_t number, uint32_t line) {
+static bool was_refused(uint32_t number, uint32_t line, uint32_t column) {
     if (number == GLOBE_OK) {
         return false;
     }
     printf("refused %" PRIu32 " (%s)", number, refusals[number].name);
     if (line != 0) {
-        printf(" at line %" PRIu32, line);
+        printf(" at line %" PRIu32 ", column %" PRIu32, line, column);
     }
     printf(": %s\n", refusals[number].advice);
     return true;
 }
 
 static bool print_orientation(globe_oriented o) {
-    if (was_refused(o.number, o.line)) {
+    if (was_refused(o.number, o.line, o.column)) {
         return false;
     }
     printf("pole at right ascension %.6f, declination %.6f; meridian %.6f degrees\n", o.ra, o.dec,
@@ -79,7 +87,7 @@ static bool print_orientation(globe_oriented o) {
 }
 
 static void print_radii(globe_axes radii) {
-    if (!was_refused(radii.number, radii.line)) {
+    if (!was_refused(radii.number, radii.line, radii.column)) {
         printf("radii %g, %g and %g km\n", radii.a, radii.b, radii.c);
     }
 }
@@ -96,11 +104,47 @@ static void print_captions(uint32_t body) {
             return;
         }
         printf("caption %zu: ", place);
-        if (was_refused(fetched.number, fetched.line)) {
+        if (was_refused(fetched.number, fetched.line, fetched.column)) {
             return;
         }
         printf("%.*s\n", (int)fetched.count, (const char *)caption);
     }
+}
+
+/* Where a line of the text begins. */
+static const uint8_t *line_start(uint32_t line) {
+    const uint8_t *at = text;
+    while (line > 1) {
+        line -= *at++ == '\n';
+    }
+    return at;
+}
+
+/* How many bytes of a line are shown: not its end, and not what is over the limit. */
+static size_t shown_bytes(const uint8_t *at, const uint8_t *end) {
+    size_t count = 0;
+    while (count < SHOWN && at + count < end && at[count] != '\n') {
+        count++;
+    }
+    bool crlf = count > 0 && at + count < end && at[count] == '\n' && at[count - 1] == '\r';
+    return crlf ? count - 1 : count;
+}
+
+/* Whether a byte can be printed as it is. */
+static bool is_plain(uint8_t byte) { return (byte >= ' ' && byte <= '~') || byte == '\t'; }
+
+/* Prints the faulty line of the text, and a caret under the column. */
+static void print_fault(size_t bytes, uint32_t line, uint32_t column) {
+    const uint8_t *at = line_start(line);
+    size_t count = shown_bytes(at, text + bytes);
+    for (size_t i = 0; i < count; i++) {
+        putchar(is_plain(at[i]) ? at[i] : '?');
+    }
+    putchar('\n');
+    for (size_t i = 0; i + 1 < column; i++) {
+        putchar(at[i] == '\t' ? '\t' : ' ');
+    }
+    printf("^\n");
 }
 
 /* Loads a file into the pool and prints what is held then. */
@@ -120,7 +164,10 @@ static bool load(const char *path) {
 
     printf("%s: ", path);
     globe_reply reply = globe_load(pool, GLOBE_POOL_WORDS, LABEL, text, bytes);
-    if (was_refused(reply.number, reply.line)) {
+    if (was_refused(reply.number, reply.line, reply.column)) {
+        if (reply.line != 0) {
+            print_fault(bytes, reply.line, reply.column);
+        }
         return false;
     }
     globe_counts held = globe_totals(pool, GLOBE_POOL_WORDS);

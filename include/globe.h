@@ -14,11 +14,13 @@
  * an empty name, a buffer without room. The pool, text, name and buffer of one call must not
  * overlap, and each is aligned for its type.
  *
- * Answers. Each answer has a number, 0 or that of a refusal, and a line, counted from 1: the faulty
- * line of the text for the refusals 3 to 6, and 0 otherwise. The values and counts of a refused
- * answer are zeros. Zeros look like a pole and a meridian: look at the number first. A refused call
- * leaves every byte of the pool and of the buffer as it was. Where several refusals apply, the
- * answer is the one that is asked first; below, each call has its refusals in that order.
+ * Answers. Each answer has a number, 0 or that of a refusal, and a line and a column, both counted
+ * from 1: where the text is faulty, for the refusals 3, 4, 6 and 17 to 21, and 0 otherwise. Columns
+ * count bytes, a tab as one, and where something is missing the column is one past the line. The
+ * values and counts of a refused answer are zeros. Zeros look like a pole and a meridian: look at
+ * the number first. A refused call leaves every byte of the pool and of the buffer as it was. Where
+ * several refusals apply, the answer is the one that is asked first; below, each call has its
+ * refusals in that order.
  *
  * Arithmetic. The values are fixed to the last bit. For that the caller owes the default rounding,
  * to nearest; that small numbers are not flushed to zero, as linking with -ffast-math may have it;
@@ -54,15 +56,17 @@ extern "C" {
 #define GLOBE_VALUES 3072
 #define GLOBE_STRING 60
 
-/* The numbers of answers. */
+/* The numbers of answers; 5 is not given any more. In brackets: which column comes with it. */
 enum globe_number {
     GLOBE_OK = 0,            /* not refused */
     GLOBE_LABEL_HELD = 1,    /* the label is held already */
     GLOBE_TEXT_TOO_LONG = 2, /* the text has over 65,536 bytes */
-    GLOBE_LINE_TOO_LONG = 3, /* a data or delimiter line has over 132 bytes, its end not counted */
-    GLOBE_BAD_BYTE = 4,      /* the data line has a byte that is neither 32 to 126 nor a tab */
-    GLOBE_SYNTAX = 5,        /* the data line is no statement, or breaks one */
-    GLOBE_NUMBER = 6,        /* too many digits, or a power of ten beyond 22 or -22, also of 0 */
+    GLOBE_LINE_TOO_LONG = 3, /* a data or delimiter line has over 132 bytes, its end not counted
+                                (133) */
+    GLOBE_BAD_BYTE = 4,      /* the data line has a byte that is neither 32 to 126 nor a tab (of the
+                                first such byte) */
+    GLOBE_NUMBER = 6,        /* too many digits, or a power of ten beyond 22 or -22, also of 0 (of
+                                the number's first byte) */
     GLOBE_NO_ROOM = 7,       /* held and new are over 16 texts, 512 statements, 3,072 values or
                                 8,192 bytes of strings */
     GLOBE_NOT_HELD = 8,      /* the label is not held */
@@ -73,22 +77,31 @@ enum globe_number {
     GLOBE_NO_VARIABLE = 13,  /* no held statement has that name, or no string has that place */
     GLOBE_SHORT_BUFFER = 14, /* the buffer is shorter than the variable, or than the string */
     GLOBE_DAMAGED_POOL = 15, /* the size is wrong, or the words are not those of a pool */
-    GLOBE_MIXED_KIND = 16    /* a string where numbers are asked for, or the other way round */
+    GLOBE_MIXED_KIND = 16,   /* a string where numbers are asked for, or the other way round */
+    GLOBE_BAD_NAME = 17,     /* the data line begins with no name, or with one of over 32 bytes (of
+                                its first byte that is no blank) */
+    GLOBE_NO_OPERATOR = 18,  /* neither = nor += follows the name (of what follows it, blanks apart,
+                                or one past the line) */
+    GLOBE_BAD_VALUE = 19,    /* what should be a number or a string is none, or is of the list's
+                                second kind (of its first byte, or one past the line) */
+    GLOBE_OPEN_LIST = 20,    /* the list is empty (of its bracket), or open at a delimiter line (1)
+                                or at the text's end (one past its last line) */
+    GLOBE_REST_OF_LINE = 21  /* more than blanks follows the statement (of the first such byte) */
 };
 
 /* Done, or refused. */
 typedef struct {
-    uint32_t number, line;
+    uint32_t number, line, column;
 } globe_reply;
 
 /* How many values, or bytes of a string, were written to the buffer. */
 typedef struct {
-    uint32_t number, line, count;
+    uint32_t number, line, column, count;
 } globe_fetched;
 
 /* How many texts, statements and values are held. */
 typedef struct {
-    uint32_t number, line, texts, statements, values;
+    uint32_t number, line, column, texts, statements, values;
 } globe_counts;
 
 /*
@@ -97,7 +110,7 @@ typedef struct {
  * 0 and below 360, which is never answered.
  */
 typedef struct {
-    uint32_t number, line;
+    uint32_t number, line, column;
     double ra, dec, w, m11, m12, m13, m21, m22, m23, m31, m32, m33;
 } globe_oriented;
 
@@ -106,7 +119,7 @@ typedef struct {
  * one, in km.
  */
 typedef struct {
-    uint32_t number, line;
+    uint32_t number, line, column;
     double a, b, c;
 } globe_axes;
 
@@ -124,8 +137,9 @@ globe_reply globe_make_empty(uint64_t *pool, size_t words);
  * Loads a text of so many bytes under a label, any number. Its statements come after those of the
  * texts loaded before it.
  * Refused: 15 DAMAGED POOL; 1 LABEL HELD; 2 TEXT TOO LONG; then, for the first faulty line, which
- * the answer tells, 3 LINE TOO LONG, 4 BAD BYTE, and whichever of 5 SYNTAX and 6 NUMBER starts at
- * the earlier byte; 7 NO ROOM.
+ * the answer tells with the column, 3 LINE TOO LONG, 4 BAD BYTE, and whichever of 17 BAD NAME, 18
+ * NO OPERATOR, 19 BAD VALUE, 20 OPEN LIST, 21 REST OF LINE and 6 NUMBER starts at the earliest byte
+ * (19 before 6 for a number among strings); 7 NO ROOM.
  * The text is only read. A text of no statements is loaded too, and takes a label.
  */
 globe_reply globe_load(uint64_t *pool, size_t words, uint32_t label, const uint8_t *text,

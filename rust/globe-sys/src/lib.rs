@@ -12,13 +12,12 @@ pub const GLOBE_TEXT_BYTES: usize = 65536;
 pub const GLOBE_VALUES: usize = 3072;
 pub const GLOBE_STRING: usize = 60;
 
-/// The numbers of answers.
+/// The numbers of answers; 5 is not given any more.
 pub const GLOBE_OK: u32 = 0;
 pub const GLOBE_LABEL_HELD: u32 = 1;
 pub const GLOBE_TEXT_TOO_LONG: u32 = 2;
 pub const GLOBE_LINE_TOO_LONG: u32 = 3;
 pub const GLOBE_BAD_BYTE: u32 = 4;
-pub const GLOBE_SYNTAX: u32 = 5;
 pub const GLOBE_NUMBER: u32 = 6;
 pub const GLOBE_NO_ROOM: u32 = 7;
 pub const GLOBE_NOT_HELD: u32 = 8;
@@ -30,6 +29,11 @@ pub const GLOBE_NO_VARIABLE: u32 = 13;
 pub const GLOBE_SHORT_BUFFER: u32 = 14;
 pub const GLOBE_DAMAGED_POOL: u32 = 15;
 pub const GLOBE_MIXED_KIND: u32 = 16;
+pub const GLOBE_BAD_NAME: u32 = 17;
+pub const GLOBE_NO_OPERATOR: u32 = 18;
+pub const GLOBE_BAD_VALUE: u32 = 19;
+pub const GLOBE_OPEN_LIST: u32 = 20;
+pub const GLOBE_REST_OF_LINE: u32 = 21;
 
 /// Done, or refused.
 #[repr(C)]
@@ -37,6 +41,7 @@ pub const GLOBE_MIXED_KIND: u32 = 16;
 pub struct globe_reply {
     pub number: u32,
     pub line: u32,
+    pub column: u32,
 }
 
 /// How many values, or bytes of a string, were written to the buffer.
@@ -45,6 +50,7 @@ pub struct globe_reply {
 pub struct globe_fetched {
     pub number: u32,
     pub line: u32,
+    pub column: u32,
     pub count: u32,
 }
 
@@ -54,6 +60,7 @@ pub struct globe_fetched {
 pub struct globe_counts {
     pub number: u32,
     pub line: u32,
+    pub column: u32,
     pub texts: u32,
     pub statements: u32,
     pub values: u32,
@@ -66,6 +73,7 @@ pub struct globe_counts {
 pub struct globe_oriented {
     pub number: u32,
     pub line: u32,
+    pub column: u32,
     pub ra: f64,
     pub dec: f64,
     pub w: f64,
@@ -86,6 +94,7 @@ pub struct globe_oriented {
 pub struct globe_axes {
     pub number: u32,
     pub line: u32,
+    pub column: u32,
     pub a: f64,
     pub b: f64,
     pub c: f64,

@@ -20,7 +20,13 @@ static const char TEXT[] = "note\n"
                            "24341 )\n"
                            "BODY8_NUT_PREC_ANGLES = ( 357.85 52.316 )\n"
                            "CAPTION = ( 'Neptune' '' 'Le Verrier''s planet' )\n";
-static const char FAULTY[] = "\\begindata\nX = 1\nX = 1E23\n";
+/* One text for each refusal that tells a line and a column. */
+static const char *const FAULTY[] = {
+    "\\begindata\nX = 1\nX = 1E23\n", "\\begindata\n\tX = \001",
+    "\\begindata\n 'X' = 1",          "\\begindata\nX\t: 1",
+    "\\begindata\nX = 1\nX = \n",     "\\begindata\nX = ( 1 \r\n",
+    "\\begindata\nX = ( 1\n) 2",
+};
 static const char MIXING[] = "\\begindata\nBODY899_PM += 'a caption'\n";
 static const char NAME[] = "BODY899_RADII";
 
@@ -33,17 +39,24 @@ static void print_doubles(size_t count, const double *values) {
     printf("\n");
 }
 
+/* What every answer begins with. */
+static void print_place(const char *answer, uint32_t number, uint32_t line, uint32_t column) {
+    printf("%s %" PRIu32 " %" PRIu32 " %" PRIu32, answer, number, line, column);
+}
+
 static void print_reply(globe_reply r) {
-    printf("reply %" PRIu32 " %" PRIu32 "\n", r.number, r.line);
+    print_place("reply", r.number, r.line, r.column);
+    printf("\n");
 }
 
 static void print_counts(globe_counts c) {
-    printf("counts %" PRIu32 " %" PRIu32 " %" PRIu32 " %" PRIu32 " %" PRIu32 "\n", c.number, c.line,
-           c.texts, c.statements, c.values);
+    print_place("counts", c.number, c.line, c.column);
+    printf(" %" PRIu32 " %" PRIu32 " %" PRIu32 "\n", c.texts, c.statements, c.values);
 }
 
 static void print_fetched(globe_fetched f, const double *buffer, size_t room) {
-    printf("fetched %" PRIu32 " %" PRIu32 " %" PRIu32, f.number, f.line, f.count);
+    print_place("fetched", f.number, f.line, f.column);
+    printf(" %" PRIu32, f.count);
     print_doubles(room, buffer);
 }
 
@@ -53,21 +66,28 @@ static void print_string(const char *name, size_t place, size_t room) {
     memset(buffer, '-', sizeof buffer);
     globe_fetched f = globe_fetch_string(pool, GLOBE_POOL_WORDS, (const uint8_t *)name,
                                          strlen(name), place, buffer, room);
-    printf("string %" PRIu32 " %" PRIu32 " %" PRIu32, f.number, f.line, f.count);
-    printf(" %.*s\n", GLOBE_STRING, (const char *)buffer);
+    print_place("string", f.number, f.line, f.column);
+    printf(" %" PRIu32 " %.*s\n", f.count, GLOBE_STRING, (const char *)buffer);
 }
 
 static void print_oriented(globe_oriented o) {
     const double values[] = {o.ra,  o.dec, o.w,   o.m11, o.m12, o.m13,
                              o.m21, o.m22, o.m23, o.m31, o.m32, o.m33};
-    printf("oriented %" PRIu32 " %" PRIu32, o.number, o.line);
+    print_place("oriented", o.number, o.line, o.column);
     print_doubles(12, values);
 }
 
 static void print_axes(globe_axes x) {
     const double values[] = {x.a, x.b, x.c};
-    printf("axes %" PRIu32 " %" PRIu32, x.number, x.line);
+    print_place("axes", x.number, x.line, x.column);
     print_doubles(3, values);
+}
+
+static void faulty_loads(void) {
+    for (size_t i = 0; i < sizeof FAULTY / sizeof *FAULTY; i++) {
+        const uint8_t *text = (const uint8_t *)FAULTY[i];
+        print_reply(globe_load(pool, GLOBE_POOL_WORDS, 2, text, strlen(FAULTY[i])));
+    }
 }
 
 static void string_calls(void) {
@@ -95,8 +115,7 @@ static void string_calls(void) {
 }
 
 int main(void) {
-    const uint8_t *text = (const uint8_t *)TEXT, *faulty = (const uint8_t *)FAULTY;
-    const uint8_t *name = (const uint8_t *)NAME;
+    const uint8_t *text = (const uint8_t *)TEXT, *name = (const uint8_t *)NAME;
     const size_t words = globe_pool_words();
     double buffer[4] = {-1, -1, -1, -1};
 
@@ -106,7 +125,7 @@ int main(void) {
     print_reply(globe_make_empty(pool, words));
     print_reply(globe_load(pool, words, 4294967295u, text, sizeof TEXT - 1));
     print_reply(globe_load(pool, words, 4294967295u, text, sizeof TEXT - 1));
-    print_reply(globe_load(pool, words, 2, faulty, sizeof FAULTY - 1));
+    faulty_loads();
     print_counts(globe_totals(pool, words));
     print_fetched(globe_fetch(pool, words, name, sizeof NAME - 1, buffer, 2), buffer, 4);
     print_fetched(globe_fetch(pool, words, name, sizeof NAME - 1, buffer, 4), buffer, 4);

@@ -19,7 +19,16 @@ BODY899_RADII = ( 24764 24764
 BODY8_NUT_PREC_ANGLES = ( 357.85 52.316 )
 CAPTION = ( 'Neptune' '' 'Le Verrier''s planet' )
 ";
-const FAULTY: &[u8] = b"\\begindata\nX = 1\nX = 1E23\n";
+/// One text for each refusal that tells a line and a column, and the three numbers.
+const FAULTY: [(&[u8], [u32; 3]); 7] = [
+    (b"\\begindata\nX = 1\nX = 1E23\n", [6, 3, 5]),
+    (b"\\begindata\n\tX = \x01", [4, 2, 6]),
+    (b"\\begindata\n 'X' = 1", [17, 2, 2]),
+    (b"\\begindata\nX\t: 1", [18, 2, 3]),
+    (b"\\begindata\nX = 1\nX = \n", [19, 3, 5]),
+    (b"\\begindata\nX = ( 1 \r\n", [20, 2, 9]),
+    (b"\\begindata\nX = ( 1\n) 2", [21, 3, 3]),
+];
 const MIXING: &[u8] = b"\\begindata\nBODY899_PM += 'a caption'\n";
 const NAME: &[u8] = b"BODY899_RADII";
 const CAPTION: &[u8] = b"CAPTION";
@@ -41,16 +50,18 @@ impl Lines {
     }
 
     fn reply(&mut self, r: globe_reply) {
-        self.add("reply", &[r.number, r.line], &[]);
+        self.add("reply", &[r.number, r.line, r.column], &[]);
     }
 
     fn counts(&mut self, c: globe_counts) {
-        let numbers = [c.number, c.line, c.texts, c.statements, c.values];
-        self.add("counts", &numbers, &[]);
+        let place = [c.number, c.line, c.column];
+        let counts = [c.texts, c.statements, c.values];
+        self.add("counts", &[place, counts].concat(), &[]);
     }
 
     fn fetched(&mut self, f: globe_fetched, buffer: &[f64]) {
-        self.add("fetched", &[f.number, f.line, f.count], buffer);
+        let numbers = [f.number, f.line, f.column, f.count];
+        self.add("fetched", &numbers, buffer);
     }
 
     /// Fetches a string and tells the answer and the buffer, all of it.
@@ -65,8 +76,8 @@ impl Lines {
         let buffer = String::from_utf8_lossy(&bytes);
         writeln!(
             self.0,
-            "string {} {} {} {buffer}",
-            f.number, f.line, f.count
+            "string {} {} {} {} {buffer}",
+            f.number, f.line, f.column, f.count
         )
         .unwrap();
     }
@@ -75,11 +86,11 @@ impl Lines {
         let doubles = [
             o.ra, o.dec, o.w, o.m11, o.m12, o.m13, o.m21, o.m22, o.m23, o.m31, o.m32, o.m33,
         ];
-        self.add("oriented", &[o.number, o.line], &doubles);
+        self.add("oriented", &[o.number, o.line, o.column], &doubles);
     }
 
     fn axes(&mut self, x: globe_axes) {
-        self.add("axes", &[x.number, x.line], &[x.a, x.b, x.c]);
+        self.add("axes", &[x.number, x.line, x.column], &[x.a, x.b, x.c]);
     }
 }
 
@@ -127,7 +138,7 @@ fn calls() -> String {
     let pool = memory.as_mut_ptr();
     let mut buffer = [-1.0; 4];
     let room = buffer.as_mut_ptr();
-    let (text, faulty, name) = (TEXT.as_ptr(), FAULTY.as_ptr(), NAME.as_ptr());
+    let (text, name) = (TEXT.as_ptr(), NAME.as_ptr());
     // Safety: each pointer has as many elements behind it as is said, and none overlap.
     unsafe {
         lines.counts(globe_totals(pool, words));
@@ -135,7 +146,9 @@ fn calls() -> String {
         lines.reply(globe_make_empty(pool, words));
         lines.reply(globe_load(pool, words, u32::MAX, text, TEXT.len()));
         lines.reply(globe_load(pool, words, u32::MAX, text, TEXT.len()));
-        lines.reply(globe_load(pool, words, 2, faulty, FAULTY.len()));
+        for (faulty, _) in FAULTY {
+            lines.reply(globe_load(pool, words, 2, faulty.as_ptr(), faulty.len()));
+        }
         lines.counts(globe_totals(pool, words));
         let whole = NAME.len();
         lines.fetched(globe_fetch(pool, words, name, whole, room, 2), &buffer);
@@ -186,14 +199,31 @@ fn numbers_of_the_answers() {
     let numbers: Vec<&str> = lines
         .lines()
         .filter_map(|line| line.split(' ').nth(1))
-        .take(48)
+        .take(54)
         .collect();
     let expected = [
-        "15", "15", "0", "0", "1", "6", "0", "14", "0", "13", "0", "0", "9", "10", "0", "10", "0",
-        "10", "0", "10", "15", "15", "0", "13", "14", "0", // strings
+        "15", "15", "0", "0", "1", // faulty texts
+        "6", "4", "17", "18", "19", "20", "21", // queries
+        "0", "14", "0", "13", "0", "0", "9", "10", "0", "10", "0", "10", "0", "10", "15", "15",
+        "0", "13", "14", "0", // strings
         "0", "0", "0", "14", "13", "13", "13", "16", "13", "13", "16", "0", "13", "15", "0", "16",
         "0", // removals
         "8", "0", "0", "0", "0",
     ];
     assert_eq!(numbers, expected);
+}
+
+#[test]
+fn places_of_the_answers() {
+    let lines = calls();
+    let faulty = 5..5 + FAULTY.len();
+    for (answer, line) in lines.lines().take(54).enumerate() {
+        let told: Vec<&str> = line.split(' ').skip(1).take(3).collect();
+        if faulty.contains(&answer) {
+            let (_, expected) = FAULTY[answer - faulty.start];
+            assert_eq!(told, expected.map(|number| number.to_string()));
+        } else {
+            assert_eq!(told[1..], ["0", "0"], "{line}");
+        }
+    }
 }

@@ -15,7 +15,13 @@ fn the_example_prints_what_is_kept() {
 
     let refused = common::run(&program, &["examples/kernels/mars-example.tpc"]);
     assert!(!refused.status.success());
-    assert!(common::written(&refused).contains("refused 6 (NUMBER) at line 485: "));
+    let shown = common::written(&refused);
+    assert!(shown.contains("refused 6 (NUMBER) at line 485, column "));
+    let lines: Vec<&str> = shown.lines().rev().take(2).collect();
+    let caret = lines[0]
+        .find('^')
+        .expect("a caret is under the faulty line");
+    assert!(lines[1][caret..].starts_with("6.6443009930565219D-09"));
 
     let museum = common::run(&program, &["examples/kernels/museum.tpc"]);
     assert!(museum.status.success());

@@ -12,19 +12,23 @@ int main(void) {
     SIZE(globe_reply);
     OFFSET(globe_reply, number);
     OFFSET(globe_reply, line);
+    OFFSET(globe_reply, column);
     SIZE(globe_fetched);
     OFFSET(globe_fetched, number);
     OFFSET(globe_fetched, line);
+    OFFSET(globe_fetched, column);
     OFFSET(globe_fetched, count);
     SIZE(globe_counts);
     OFFSET(globe_counts, number);
     OFFSET(globe_counts, line);
+    OFFSET(globe_counts, column);
     OFFSET(globe_counts, texts);
     OFFSET(globe_counts, statements);
     OFFSET(globe_counts, values);
     SIZE(globe_oriented);
     OFFSET(globe_oriented, number);
     OFFSET(globe_oriented, line);
+    OFFSET(globe_oriented, column);
     OFFSET(globe_oriented, ra);
     OFFSET(globe_oriented, dec);
     OFFSET(globe_oriented, w);
@@ -40,6 +44,7 @@ int main(void) {
     SIZE(globe_axes);
     OFFSET(globe_axes, number);
     OFFSET(globe_axes, line);
+    OFFSET(globe_axes, column);
     OFFSET(globe_axes, a);
     OFFSET(globe_axes, b);
     OFFSET(globe_axes, c);
@@ -52,7 +57,6 @@ int main(void) {
     NUMBER(GLOBE_TEXT_TOO_LONG);
     NUMBER(GLOBE_LINE_TOO_LONG);
     NUMBER(GLOBE_BAD_BYTE);
-    NUMBER(GLOBE_SYNTAX);
     NUMBER(GLOBE_NUMBER);
     NUMBER(GLOBE_NO_ROOM);
     NUMBER(GLOBE_NOT_HELD);
@@ -64,5 +68,10 @@ int main(void) {
     NUMBER(GLOBE_SHORT_BUFFER);
     NUMBER(GLOBE_DAMAGED_POOL);
     NUMBER(GLOBE_MIXED_KIND);
+    NUMBER(GLOBE_BAD_NAME);
+    NUMBER(GLOBE_NO_OPERATOR);
+    NUMBER(GLOBE_BAD_VALUE);
+    NUMBER(GLOBE_OPEN_LIST);
+    NUMBER(GLOBE_REST_OF_LINE);
     return 0;
 }

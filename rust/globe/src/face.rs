@@ -17,26 +17,26 @@ pub fn pool_words() -> usize {
 pub fn make_empty(pool: &mut [u64]) -> Result<(), Refused> {
     // Safety: see above.
     let reply = unsafe { sys::globe_make_empty(pool.as_mut_ptr(), pool.len()) };
-    accepted(reply.number, reply.line)
+    accepted(reply.number, reply.line, reply.column)
 }
 
 pub fn load(pool: &mut [u64], label: u32, text: &[u8]) -> Result<(), Refused> {
     let (words, bytes) = (pool.len(), text.len());
     // Safety: see above.
     let reply = unsafe { sys::globe_load(pool.as_mut_ptr(), words, label, text.as_ptr(), bytes) };
-    accepted(reply.number, reply.line)
+    accepted(reply.number, reply.line, reply.column)
 }
 
 pub fn remove(pool: &mut [u64], label: u32) -> Result<(), Refused> {
     // Safety: see above.
     let reply = unsafe { sys::globe_remove(pool.as_mut_ptr(), pool.len(), label) };
-    accepted(reply.number, reply.line)
+    accepted(reply.number, reply.line, reply.column)
 }
 
 pub fn clear(pool: &mut [u64]) -> Result<(), Refused> {
     // Safety: see above.
     let reply = unsafe { sys::globe_clear(pool.as_mut_ptr(), pool.len()) };
-    accepted(reply.number, reply.line)
+    accepted(reply.number, reply.line, reply.column)
 }
 
 pub fn fetch(pool: &[u64], name: &[u8], buffer: &mut [f64]) -> Result<usize, Refused> {
@@ -52,7 +52,7 @@ pub fn fetch(pool: &[u64], name: &[u8], buffer: &mut [f64]) -> Result<usize, Ref
             room,
         )
     };
-    accepted(fetched.number, fetched.line)?;
+    accepted(fetched.number, fetched.line, fetched.column)?;
     Ok(fetched.count as usize)
 }
 
@@ -75,14 +75,14 @@ pub fn fetch_string(
             room,
         )
     };
-    accepted(fetched.number, fetched.line)?;
+    accepted(fetched.number, fetched.line, fetched.column)?;
     Ok(fetched.count as usize)
 }
 
 pub fn totals(pool: &[u64]) -> Result<Totals, Refused> {
     // Safety: see above.
     let counts = unsafe { sys::globe_totals(pool.as_ptr(), pool.len()) };
-    accepted(counts.number, counts.line)?;
+    accepted(counts.number, counts.line, counts.column)?;
     Ok(Totals {
         texts: counts.texts as usize,
         statements: counts.statements as usize,
@@ -109,7 +109,7 @@ pub fn builtin_radii(body: u32) -> Result<[f64; 3], Refused> {
 }
 
 /// Nothing if the number is that of success, else the refusal that it stands for.
-fn accepted(number: u32, line: u32) -> Result<(), Refused> {
+fn accepted(number: u32, line: u32, column: u32) -> Result<(), Refused> {
     if number == sys::GLOBE_OK {
         return Ok(());
     }
@@ -117,11 +117,15 @@ fn accepted(number: u32, line: u32) -> Result<(), Refused> {
         .into_iter()
         .find(|refusal| refusal.number() == number)
         .expect("the library's numbers are those of the header");
-    Err(Refused { refusal, line })
+    Err(Refused {
+        refusal,
+        line,
+        column,
+    })
 }
 
 fn oriented(o: sys::globe_oriented) -> Result<Orientation, Refused> {
-    accepted(o.number, o.line)?;
+    accepted(o.number, o.line, o.column)?;
     Ok(Orientation {
         ra: o.ra,
         dec: o.dec,
@@ -135,6 +139,6 @@ fn oriented(o: sys::globe_oriented) -> Result<Orientation, Refused> {
 }
 
 fn axes(x: sys::globe_axes) -> Result<[f64; 3], Refused> {
-    accepted(x.number, x.line)?;
+    accepted(x.number, x.line, x.column)?;
     Ok([x.a, x.b, x.c])
 }

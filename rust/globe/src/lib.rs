@@ -28,13 +28,13 @@
 //! # Ok::<(), globe::Refused>(())
 //! ```
 //!
-//! A text that is refused says which line is faulty, and what to do:
+//! A text that is refused says what is faulty, at which line and column, and what to do:
 //!
 //! ```
 //! let mut pool = globe::Pool::new();
 //! let refused = pool.load(1, "\\begindata\nX = (1, 2\nY = 3").unwrap_err();
-//! assert_eq!(refused.refusal, globe::Refusal::Syntax);
-//! assert_eq!(refused.line, 3);
+//! assert_eq!(refused.refusal, globe::Refusal::BadValue);
+//! assert_eq!((refused.line, refused.column), (3, 1));
 //! println!("{refused}");
 //! ```
 #![no_std]

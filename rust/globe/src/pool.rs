@@ -87,9 +87,11 @@ impl Pool {
     /// Refused, in this order: [`DamagedPool`](crate::Refusal::DamagedPool),
     /// [`LabelHeld`](crate::Refusal::LabelHeld), [`TextTooLong`](crate::Refusal::TextTooLong); at
     /// the first faulty line [`LineTooLong`](crate::Refusal::LineTooLong),
-    /// [`BadByte`](crate::Refusal::BadByte), then [`Syntax`](crate::Refusal::Syntax) or
-    /// [`Number`](crate::Refusal::Number), whichever starts earlier;
-    /// [`NoRoom`](crate::Refusal::NoRoom).
+    /// [`BadByte`](crate::Refusal::BadByte), then whichever of
+    /// [`BadName`](crate::Refusal::BadName), [`NoOperator`](crate::Refusal::NoOperator),
+    /// [`BadValue`](crate::Refusal::BadValue), [`OpenList`](crate::Refusal::OpenList),
+    /// [`RestOfLine`](crate::Refusal::RestOfLine) and [`Number`](crate::Refusal::Number) starts
+    /// earliest; [`NoRoom`](crate::Refusal::NoRoom).
     ///
     /// ```
     /// use globe::{Pool, Refusal};
@@ -98,7 +100,8 @@ impl Pool {
     /// let refused = pool.load(1, "\\begindata\nX = 2").unwrap_err();
     /// assert_eq!(refused.refusal, Refusal::LabelHeld);
     /// let refused = pool.load(2, "\\begindata\nX : 2").unwrap_err();
-    /// assert_eq!((refused.refusal, refused.line), (Refusal::Syntax, 2));
+    /// assert_eq!(refused.refusal, Refusal::NoOperator);
+    /// assert_eq!((refused.line, refused.column), (2, 3));
     /// # Ok::<(), globe::Refused>(())
     /// ```
     pub fn load(&mut self, label: u32, text: impl AsRef<[u8]>) -> Result<(), Refused> {

@@ -9,8 +9,8 @@ use globe_sys as sys;
 ///
 /// ```
 /// use globe::Refusal;
-/// assert_eq!(Refusal::Syntax.number(), 5);
-/// assert_eq!(Refusal::Syntax.name(), "SYNTAX");
+/// assert_eq!(Refusal::BadName.number(), 17);
+/// assert_eq!(Refusal::BadName.name(), "BAD NAME");
 /// assert!(Refusal::Epoch.to_string().starts_with("the epoch is not"));
 /// ```
 #[derive(Clone, Copy, Debug, PartialEq, Eq, Hash)]
@@ -23,8 +23,6 @@ pub enum Refusal {
     LineTooLong,
     /// 4: a data line has a byte that may not stand there.
     BadByte,
-    /// 5: a data line is no statement, or breaks one.
-    Syntax,
     /// 6: a number is well formed but outside the class that is read.
     Number,
     /// 7: the pool has no room for the text.
@@ -47,16 +45,25 @@ pub enum Refusal {
     DamagedPool,
     /// 16: a variable has a string where numbers are asked for, or a number where a string is.
     MixedKind,
+    /// 17: a statement begins with no name, or with one that is too long.
+    BadName,
+    /// 18: neither `=` nor `+=` follows the name.
+    NoOperator,
+    /// 19: what should be a number or a string is none, or is of another kind than its list.
+    BadValue,
+    /// 20: a list is empty, or is not closed.
+    OpenList,
+    /// 21: something follows the statement on its line.
+    RestOfLine,
 }
 
 impl Refusal {
-    /// All refusals, in the order of their numbers.
-    pub const ALL: [Refusal; 16] = [
+    /// All refusals, in the order of their numbers. None has the number 5.
+    pub const ALL: [Refusal; 20] = [
         Refusal::LabelHeld,
         Refusal::TextTooLong,
         Refusal::LineTooLong,
         Refusal::BadByte,
-        Refusal::Syntax,
         Refusal::Number,
         Refusal::NoRoom,
         Refusal::NotHeld,
@@ -68,6 +75,11 @@ impl Refusal {
         Refusal::ShortBuffer,
         Refusal::DamagedPool,
         Refusal::MixedKind,
+        Refusal::BadName,
+        Refusal::NoOperator,
+        Refusal::BadValue,
+        Refusal::OpenList,
+        Refusal::RestOfLine,
     ];
 
     /// The number that the library gives for it.
@@ -77,7 +89,6 @@ impl Refusal {
             Refusal::TextTooLong => sys::GLOBE_TEXT_TOO_LONG,
             Refusal::LineTooLong => sys::GLOBE_LINE_TOO_LONG,
             Refusal::BadByte => sys::GLOBE_BAD_BYTE,
-            Refusal::Syntax => sys::GLOBE_SYNTAX,
             Refusal::Number => sys::GLOBE_NUMBER,
             Refusal::NoRoom => sys::GLOBE_NO_ROOM,
             Refusal::NotHeld => sys::GLOBE_NOT_HELD,
@@ -89,6 +100,11 @@ impl Refusal {
             Refusal::ShortBuffer => sys::GLOBE_SHORT_BUFFER,
             Refusal::DamagedPool => sys::GLOBE_DAMAGED_POOL,
             Refusal::MixedKind => sys::GLOBE_MIXED_KIND,
+            Refusal::BadName => sys::GLOBE_BAD_NAME,
+            Refusal::NoOperator => sys::GLOBE_NO_OPERATOR,
+            Refusal::BadValue => sys::GLOBE_BAD_VALUE,
+            Refusal::OpenList => sys::GLOBE_OPEN_LIST,
+            Refusal::RestOfLine => sys::GLOBE_REST_OF_LINE,
         }
     }
 
@@ -99,7 +115,6 @@ impl Refusal {
             Refusal::TextTooLong => "TEXT TOO LONG",
             Refusal::LineTooLong => "LINE TOO LONG",
             Refusal::BadByte => "BAD BYTE",
-            Refusal::Syntax => "SYNTAX",
             Refusal::Number => "NUMBER",
             Refusal::NoRoom => "NO ROOM",
             Refusal::NotHeld => "NOT HELD",
@@ -111,6 +126,11 @@ impl Refusal {
             Refusal::ShortBuffer => "SHORT BUFFER",
             Refusal::DamagedPool => "DAMAGED POOL",
             Refusal::MixedKind => "MIXED KIND",
+            Refusal::BadName => "BAD NAME",
+            Refusal::NoOperator => "NO OPERATOR",
+            Refusal::BadValue => "BAD VALUE",
+            Refusal::OpenList => "OPEN LIST",
+            Refusal::RestOfLine => "REST OF LINE",
         }
     }
 
@@ -129,20 +149,12 @@ impl Refusal {
                  break it, a list between two of its numbers, or take out blanks"
             }
             Refusal::BadByte => {
-                "the line is in a data section and has a character that is neither a plain \
+                "the line is in a data section and has a character here that is neither a plain \
                  letter, digit or sign nor a blank; retype it (dashes, quotes and blanks that \
                  were pasted are the usual cause), or put a comment behind \\begintext"
             }
-            Refusal::Syntax => {
-                "the line is in a data section and is no statement, or breaks one; write \
-                 NAME = NUMBER or NAME = ( NUMBER NUMBER .. ), += in place of = to append, one \
-                 statement a line, a name of at most 32 letters, digits and underscores, and \
-                 close each list by a ); a string stands in single quotes, a quote inside it \
-                 twice, has at most 60 bytes and ends on its line, and a list is all numbers or \
-                 all strings"
-            }
             Refusal::Number => {
-                "the line has a number that cannot be read exactly; its digits without the point \
+                "the number here cannot be read exactly; its digits without the point \
                  make at most 9007199254740992, and its exponent less the digits after the point \
                  is from -22 to 22, for a zero too: shorten it to 15 digits, or move its point"
             }
@@ -193,6 +205,31 @@ impl Refusal {
                  string is; take the quotes off a number, give a caption a name of its own, or \
                  write = in place of += where it should replace what stood before"
             }
+            Refusal::BadName => {
+                "the line is in a data section, and no name begins here, or one of more than 32 \
+                 letters, digits and underscores; begin the line with a name, as in NAME = \
+                 NUMBER, take away a ) before it if it should continue a list, or put a comment \
+                 behind \\begintext"
+            }
+            Refusal::NoOperator => {
+                "a name stands before this, and neither = nor += follows it; write NAME = NUMBER \
+                 or NAME += NUMBER on one line, with nothing but letters, digits and underscores \
+                 in the name"
+            }
+            Refusal::BadValue => {
+                "a number or a string should stand here; write a number as -12.5 or 1.5E3, a \
+                 string in single quotes, a quote inside it twice, with at most 60 bytes and \
+                 closed on its line before a blank, comma or bracket, no list within a list, and \
+                 a list all of numbers or all of strings"
+            }
+            Refusal::OpenList => {
+                "a list is empty, or is still open at the end of its section or of the text; \
+                 write at least one value between its ( and its ), and close it"
+            }
+            Refusal::RestOfLine => {
+                "the statement is complete before this; begin a new line for the next statement, \
+                 put several values between ( and ), or put a comment behind \\begintext"
+            }
         }
     }
 }
@@ -208,14 +245,19 @@ impl fmt::Display for Refusal {
 /// ```
 /// let mut pool = globe::Pool::new();
 /// let refused = pool.load(1, "\\begindata\nX = 1E99").unwrap_err();
-/// assert!(refused.to_string().starts_with("refused 6 (NUMBER) at line 2: "));
+/// assert_eq!((refused.line, refused.column), (2, 5));
+/// assert!(refused.to_string().starts_with("refused 6 (NUMBER) at line 2, column 5: "));
 /// ```
 #[derive(Clone, Copy, Debug, PartialEq, Eq, Hash)]
 pub struct Refused {
     /// Why the call is refused.
     pub refusal: Refusal,
-    /// The faulty line of the text, counted from 1, for the refusals 3 to 6; 0 for all others.
+    /// The faulty line of the text, counted from 1, for the refusals 3, 4, 6 and 17 to 21; 0 for
+    /// all others.
     pub line: u32,
+    /// The column of the faulty byte in its line, counted from 1, or one past the line where
+    /// something is missing at its end; 0 where the line is.
+    pub column: u32,
 }
 
 impl fmt::Display for Refused {
@@ -223,7 +265,7 @@ impl fmt::Display for Refused {
         let (number, name) = (self.refusal.number(), self.refusal.name());
         write!(f, "refused {number} ({name})")?;
         if self.line != 0 {
-            write!(f, " at line {}", self.line)?;
+            write!(f, " at line {}, column {}", self.line, self.column)?;
         }
         write!(f, ": {}", self.refusal)
     }

@@ -8,7 +8,7 @@ fn pool_of(lines: &str) -> Pool {
     pool
 }
 
-/// The number and the line that a data section is refused with.
+/// What a data section is refused with, and where.
 fn refused(lines: &str) -> Refused {
     Pool::new()
         .load(1, format!("\\begindata\n{lines}"))
@@ -48,6 +48,7 @@ fn the_class_ends_at_two_to_the_53() {
     let number = Refused {
         refusal: Refusal::Number,
         line: 2,
+        column: 5,
     };
     assert_eq!(refused("X = 9007199254740993"), number);
     assert_eq!(x(&pool_of("X = ( 1E22 1.0E23 )")), [1E22, 1E23]);
@@ -116,9 +117,10 @@ fn the_built_in_source_does_not_ask_for_a_pool() {
 
 #[test]
 fn a_list_has_a_number() {
-    let syntax = Refused {
-        refusal: Refusal::Syntax,
+    let empty = Refused {
+        refusal: Refusal::OpenList,
         line: 2,
+        column: 7,
     };
-    assert_eq!(refused("X = ( )"), syntax);
+    assert_eq!(refused("X = ( )"), empty);
 }

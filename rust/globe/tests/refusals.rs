@@ -1,12 +1,21 @@
-//! Each refusal, met through the safe crate: its number, its line, its words, and that a refused
-//! call changes nothing.
+//! Each refusal, met through the safe crate: its number, its line and column, its words, and that a
+//! refused call changes nothing.
 
 use globe::{builtin_orientation, Pool, Refusal, Refused};
 
 const BODY: &str = "\\begindata\nBODY1_POLE_RA = 1\nBODY1_POLE_DEC = 2\n";
 
-fn at(refusal: Refusal, line: u32) -> Refused {
-    Refused { refusal, line }
+fn at(refusal: Refusal, line: u32, column: u32) -> Refused {
+    Refused {
+        refusal,
+        line,
+        column,
+    }
+}
+
+/// A refusal that has no place in a text.
+fn alone(refusal: Refusal) -> Refused {
+    at(refusal, 0, 0)
 }
 
 /// What a load of a text is refused with; the pool keeps every word.
@@ -22,20 +31,48 @@ fn of_loads() {
     let mut pool = Pool::new();
     pool.load(1, "").unwrap();
     let long = format!("{}\\begindata", " ".repeat(123));
-    assert_eq!(refused(&mut pool, 1, ""), at(Refusal::LabelHeld, 0));
+    assert_eq!(refused(&mut pool, 1, ""), alone(Refusal::LabelHeld));
     let over = "\n".repeat(65_537);
-    assert_eq!(refused(&mut pool, 2, &over), at(Refusal::TextTooLong, 0));
-    assert_eq!(refused(&mut pool, 2, &long), at(Refusal::LineTooLong, 1));
+    assert_eq!(refused(&mut pool, 2, &over), alone(Refusal::TextTooLong));
+    assert_eq!(
+        refused(&mut pool, 2, &long),
+        at(Refusal::LineTooLong, 1, 133)
+    );
     let bad = "\\begindata\n\nX = 1\u{7f}";
-    assert_eq!(refused(&mut pool, 2, bad), at(Refusal::BadByte, 3));
-    let open = "\\begindata\nX = ( 1\n\n";
-    assert_eq!(refused(&mut pool, 2, open), at(Refusal::Syntax, 3));
+    assert_eq!(refused(&mut pool, 2, bad), at(Refusal::BadByte, 3, 6));
     let number = "\\begindata\nX = ( 1E23";
-    assert_eq!(refused(&mut pool, 2, number), at(Refusal::Number, 2));
+    assert_eq!(refused(&mut pool, 2, number), at(Refusal::Number, 2, 7));
     let zero = "\\begindata\nX = 0E-23";
-    assert_eq!(refused(&mut pool, 2, zero), at(Refusal::Number, 2));
+    assert_eq!(refused(&mut pool, 2, zero), at(Refusal::Number, 2, 5));
     let many = format!("\\begindata\n{}", "X = 1\n".repeat(513));
-    assert_eq!(refused(&mut pool, 2, &many), at(Refusal::NoRoom, 0));
+    assert_eq!(refused(&mut pool, 2, &many), alone(Refusal::NoRoom));
+}
+
+#[test]
+fn of_statements() {
+    use Refusal::{BadName, BadValue, NoOperator, OpenList, RestOfLine};
+    let mut pool = Pool::new();
+    let long = format!(" {} = 1", "N".repeat(33));
+    for (lines, refused_at) in [
+        ("\t'X' = 1", at(BadName, 2, 2)),
+        (long.as_str(), at(BadName, 2, 2)),
+        ("X-Y = 1", at(NoOperator, 2, 2)),
+        ("X + = 1", at(NoOperator, 2, 3)),
+        ("X  \r\n= 1", at(NoOperator, 2, 4)),
+        ("X = 1.2.3", at(BadValue, 2, 5)),
+        ("X =   ", at(BadValue, 2, 7)),
+        ("X = ( 1\n (2))", at(BadValue, 3, 2)),
+        ("X = )", at(BadValue, 2, 5)),
+        ("X = (,)", at(OpenList, 2, 7)),
+        ("X = ( 1\n \\begintext", at(OpenList, 3, 1)),
+        ("X = ( 1\n", at(OpenList, 2, 8)),
+        ("X = ( 1\n\n", at(OpenList, 3, 1)),
+        ("X = 1 \t, 2", at(RestOfLine, 2, 8)),
+        ("X = 1(", at(RestOfLine, 2, 6)),
+    ] {
+        let text = format!("\\begindata\n{lines}");
+        assert_eq!(refused(&mut pool, 1, &text), refused_at, "{lines}");
+    }
 }
 
 #[test]
@@ -43,25 +80,27 @@ fn of_loads_with_strings() {
     let mut pool = Pool::new();
     let caption = |bytes| format!("X += '{}'\n", "c".repeat(bytes));
     let too_long = caption(61);
-    for (lines, line) in [
-        ("X = 'a", 2),
-        ("X = 'a''", 2),
-        ("X = 'a'b", 2),
-        ("X = 'a' 'b'", 2),
-        ("X = ( 1\n'a' )", 3),
-        ("X = ( 'a'\n\n1E99 )", 4),
-        (too_long.as_str(), 2),
+    for (lines, line, column) in [
+        ("X = 'a", 2, 5),
+        ("X = 'a''", 2, 5),
+        ("X = 'a'b", 2, 5),
+        ("X = ( 1\n 'a' )", 3, 2),
+        ("X = ( 'a'\n\n1E99 )", 4, 1),
+        (too_long.as_str(), 2, 6),
     ] {
         let text = format!("\\begindata\n{lines}");
-        assert_eq!(refused(&mut pool, 1, &text), at(Refusal::Syntax, line));
+        let expected = at(Refusal::BadValue, line, column);
+        assert_eq!(refused(&mut pool, 1, &text), expected);
     }
+    let two = "\\begindata\nX = 'a' 'b'";
+    assert_eq!(refused(&mut pool, 1, two), at(Refusal::RestOfLine, 2, 9));
     // 136 strings of 60 bytes and one of 32 are 8,192.
     let most = format!("\\begindata\n{}", caption(60).repeat(136));
     let over = format!("{most}{}", caption(33));
-    assert_eq!(refused(&mut pool, 1, &over), at(Refusal::NoRoom, 0));
+    assert_eq!(refused(&mut pool, 1, &over), alone(Refusal::NoRoom));
     pool.load(1, format!("{most}{}", caption(32))).unwrap();
     let one = "\\begindata\nY = 'c'";
-    assert_eq!(refused(&mut pool, 2, one), at(Refusal::NoRoom, 0));
+    assert_eq!(refused(&mut pool, 2, one), alone(Refusal::NoRoom));
     pool.load(2, "\\begindata\nY = ''").unwrap();
 }
 
@@ -70,13 +109,13 @@ fn of_removals_and_fetches() {
     let mut pool = Pool::new();
     pool.load(1, "\\begindata\nX = ( 1 2 )").unwrap();
     let before = pool.words().to_vec();
-    assert_eq!(pool.remove(2), Err(at(Refusal::NotHeld, 0)));
+    assert_eq!(pool.remove(2), Err(alone(Refusal::NotHeld)));
     assert_eq!(pool.words(), before);
     let mut buffer = [7.0; 1];
     let fetched = pool.fetch("Y", &mut buffer).unwrap_err();
-    assert_eq!(fetched, at(Refusal::NoVariable, 0));
+    assert_eq!(fetched, alone(Refusal::NoVariable));
     let fetched = pool.fetch(b"X", &mut buffer).unwrap_err();
-    assert_eq!(fetched, at(Refusal::ShortBuffer, 0));
+    assert_eq!(fetched, alone(Refusal::ShortBuffer));
     assert_eq!(buffer, [7.0]);
 }
 
@@ -98,7 +137,7 @@ fn of_fetches_of_strings() {
         ("X", 1, 1, Refusal::ShortBuffer),
     ] {
         let fetched = pool.fetch_string(name, place, &mut buffer[..room]);
-        assert_eq!(fetched, Err(at(refusal, 0)), "{name} {place} {room}");
+        assert_eq!(fetched, Err(alone(refusal)), "{name} {place} {room}");
     }
     assert_eq!(&buffer, b"-----");
     assert_eq!(pool.fetch_string("X", 2, &mut []), Ok(&b""[..]));
@@ -106,7 +145,7 @@ fn of_fetches_of_strings() {
     assert_eq!(&buffer, b"ab---");
     for name in ["X", "Z"] {
         let fetched = pool.fetch(name, &mut []).unwrap_err();
-        assert_eq!(fetched, at(Refusal::MixedKind, 0));
+        assert_eq!(fetched, alone(Refusal::MixedKind));
     }
 }
 
@@ -115,21 +154,21 @@ fn of_orientations_and_radii() {
     let mut pool = Pool::new();
     pool.load(1, BODY).unwrap();
     let orientation = |pool: &Pool, epoch| pool.orientation(1, epoch).unwrap_err();
-    assert_eq!(orientation(&pool, f64::NAN), at(Refusal::Epoch, 0));
+    assert_eq!(orientation(&pool, f64::NAN), alone(Refusal::Epoch));
     let unknown = pool.orientation(2, 0.0).unwrap_err();
-    assert_eq!(unknown, at(Refusal::UnknownBody, 0));
-    assert_eq!(orientation(&pool, 0.0), at(Refusal::Incomplete, 0));
+    assert_eq!(unknown, alone(Refusal::UnknownBody));
+    assert_eq!(orientation(&pool, 0.0), alone(Refusal::Incomplete));
     pool.load(2, "\\begindata\nBODY1_PM = ( 1 2 3 4 )").unwrap();
-    assert_eq!(orientation(&pool, 0.0), at(Refusal::WrongCount, 0));
-    assert_eq!(pool.radii(1), Err(at(Refusal::UnknownBody, 0)));
+    assert_eq!(orientation(&pool, 0.0), alone(Refusal::WrongCount));
+    assert_eq!(pool.radii(1), Err(alone(Refusal::UnknownBody)));
     pool.load(3, "\\begindata\nBODY1_RADII = 1").unwrap();
-    assert_eq!(pool.radii(1), Err(at(Refusal::WrongCount, 0)));
+    assert_eq!(pool.radii(1), Err(alone(Refusal::WrongCount)));
     pool.load(4, "\\begindata\nBODY1_RADII = 'a'\nBODY1_POLE_RA += 'a'")
         .unwrap();
-    assert_eq!(pool.radii(1), Err(at(Refusal::MixedKind, 0)));
-    assert_eq!(orientation(&pool, 0.0), at(Refusal::MixedKind, 0));
+    assert_eq!(pool.radii(1), Err(alone(Refusal::MixedKind)));
+    assert_eq!(orientation(&pool, 0.0), alone(Refusal::MixedKind));
     let negative = builtin_orientation(-31_i32 as u32, 0.0);
-    assert_eq!(negative, Err(at(Refusal::UnknownBody, 0)));
+    assert_eq!(negative, Err(alone(Refusal::UnknownBody)));
 }
 
 #[test]
@@ -137,7 +176,7 @@ fn of_every_call_on_a_damaged_pool() {
     let mut words: Box<[u64]> = Pool::new().words().into();
     words[0] = 17;
     let mut pool = Pool::from_words(words);
-    let damaged = at(Refusal::DamagedPool, 0);
+    let damaged = alone(Refusal::DamagedPool);
     assert_eq!(pool.load(1, ""), Err(damaged));
     assert_eq!(pool.remove(1), Err(damaged));
     assert_eq!(pool.clear(), Err(damaged));
@@ -155,13 +194,14 @@ fn of_every_call_on_a_damaged_pool() {
 
 #[test]
 fn numbers_and_words() {
-    for (place, refusal) in Refusal::ALL.into_iter().enumerate() {
-        assert_eq!(refusal.number() as usize, place + 1);
-        let shown = at(refusal, 0).to_string();
+    let numbers = (1..=21).filter(|number| *number != 5);
+    assert!(Refusal::ALL.map(Refusal::number).into_iter().eq(numbers));
+    for refusal in Refusal::ALL {
+        let shown = alone(refusal).to_string();
         let (number, name) = (refusal.number(), refusal.name());
         assert_eq!(shown, format!("refused {number} ({name}): {refusal}"));
         assert!(refusal.to_string().contains(';'), "{refusal}: what to do?");
     }
-    let shown = at(Refusal::Syntax, 12).to_string();
-    assert!(shown.starts_with("refused 5 (SYNTAX) at line 12: "));
+    let shown = at(Refusal::OpenList, 12, 7).to_string();
+    assert!(shown.starts_with("refused 20 (OPEN LIST) at line 12, column 7: "));
 }
