@@ -4,6 +4,7 @@
 
 use std::hint::black_box;
 
+use globe_sys::GLOBE_OPEN_LIST;
 use twin::layout::WORDS;
 use twin::{answers, builtin, pool};
 
@@ -108,7 +109,7 @@ fn read_once() -> Row {
         call: "first pass of a kernel",
         goal: LOAD_GOAL,
         restore: Restore::Nothing,
-        library: &mut |words| assert_eq!(library::load(words, 0, black_box(text)), 5),
+        library: &mut |words| assert_eq!(library::load(words, 0, black_box(text)), GLOBE_OPEN_LIST),
         twin: &mut |words| assert!(pool::load(words, 0, black_box(text)).is_err()),
     }
     .on(&pool_of(0), Some(0), Some(text.len()))

@@ -54,6 +54,7 @@ impl Call<'_> {
 pub struct Answer {
     pub number: u32,
     pub line: u32,
+    pub column: u32,
     /// What a fetch or totals count.
     pub counts: [u32; 3],
     /// The bits of an orientation or of radii.
@@ -61,11 +62,12 @@ pub struct Answer {
 }
 
 impl Answer {
-    /// An answer of numbers alone.
-    pub fn of(number: u32, line: u32) -> Answer {
+    /// An answer of number and place alone.
+    pub fn of(number: u32, line: u32, column: u32) -> Answer {
         Answer {
             number,
             line,
+            column,
             ..Answer::default()
         }
     }

@@ -47,10 +47,14 @@ fn compare(pair: &mut Pair, value: &[u8]) -> u32 {
     });
     let expected = match reading {
         Reading::Number(_) => 0,
-        Reading::Form => Refusal::Syntax.number(),
+        Reading::Form => Refusal::BadValue.number(),
         Reading::Class => Refusal::Number.number(),
     };
     assert_eq!(loaded.number, expected, "{}", value.escape_ascii());
+    // A value's first byte is its place, or one past the line if there is none.
+    let place = if expected == 0 { (0, 0) } else { (2, 5) };
+    let told = (loaded.line, loaded.column);
+    assert_eq!(told, place, "{}", value.escape_ascii());
     if let Reading::Number(number) = reading {
         let fetched = pair.ask(&Call::Fetch {
             name: b"X",

@@ -35,7 +35,11 @@ pub fn answer(call: &Call, pool: &mut [u64], buffers: &mut Buffers) -> Answer {
             }
             Call::Totals => {
                 let c = globe_totals(memory, words);
-                Answer::of(c.number, c.line).with_counts([c.texts, c.statements, c.values])
+                Answer::of(c.number, c.line, c.column).with_counts([
+                    c.texts,
+                    c.statements,
+                    c.values,
+                ])
             }
             Call::Orientation { body, epoch } => {
                 oriented(globe_orientation(memory, words, body, epoch))
@@ -50,20 +54,20 @@ pub fn answer(call: &Call, pool: &mut [u64], buffers: &mut Buffers) -> Answer {
 }
 
 fn replied(r: globe_reply) -> Answer {
-    Answer::of(r.number, r.line)
+    Answer::of(r.number, r.line, r.column)
 }
 
 fn fetched(f: globe_fetched) -> Answer {
-    Answer::of(f.number, f.line).with_counts([f.count, 0, 0])
+    Answer::of(f.number, f.line, f.column).with_counts([f.count, 0, 0])
 }
 
 fn oriented(o: globe_oriented) -> Answer {
     let doubles = [
         o.ra, o.dec, o.w, o.m11, o.m12, o.m13, o.m21, o.m22, o.m23, o.m31, o.m32, o.m33,
     ];
-    Answer::of(o.number, o.line).with_doubles(&doubles)
+    Answer::of(o.number, o.line, o.column).with_doubles(&doubles)
 }
 
 fn axes(x: globe_axes) -> Answer {
-    Answer::of(x.number, x.line).with_doubles(&[x.a, x.b, x.c])
+    Answer::of(x.number, x.line, x.column).with_doubles(&[x.a, x.b, x.c])
 }

@@ -5,7 +5,7 @@ use twin::limits::STRING_BYTES;
 use twin::refusal::Refusal;
 use twin::string::written;
 
-use crate::call::Call;
+use crate::call::{Answer, Call};
 use crate::pair::{Pair, STRING_ROOM};
 use crate::random::Random;
 use crate::tally::Tally;
@@ -41,16 +41,33 @@ pub fn run(random: &mut Random, variables: usize) -> Tally {
         // A text before it, so that the strings begin anywhere in a word.
         load(&mut pair, 1, &format!("Y = {}", quoted(&string(random))));
         if random.once_in(4) {
-            let value = faulty(random);
-            let number = load(&mut pair, 2, &format!("X = {value}"));
-            assert_eq!(number, Refusal::Syntax.number(), "{value}");
-            tally.add(number);
+            tally.add(refuse(&mut pair, &faulty(random)));
         } else {
             compare(&mut pair, random, &mut tally);
         }
         pair.ask(&Call::Clear);
     }
     tally
+}
+
+/// Loads a faulty value, which is refused for its fault and where that is; the refusal's number.
+fn refuse(pair: &mut Pair, faulty: &Faulty) -> u32 {
+    let before = "\\begindata\nX = ";
+    let text = format!("{before}{}", faulty.value);
+    let (line, column) = place(text.as_bytes(), before.len() + faulty.at);
+    let answer = pair.ask(&Call::Load {
+        label: 2,
+        text: text.as_bytes(),
+    });
+    let expected = Answer::of(faulty.refusal.number(), line, column);
+    assert_eq!(answer, expected, "{text}");
+    answer.number
+}
+
+/// The line and the column of a byte, by counting.
+fn place(text: &[u8], at: usize) -> (u32, u32) {
+    let lines: Vec<&[u8]> = text[..at].split(|byte| *byte == b'\n').collect();
+    (lines.len() as u32, lines[lines.len() - 1].len() as u32 + 1)
 }
 
 /// Loads a list of strings, takes the text before it out now and then, and fetches each string.
@@ -111,24 +128,38 @@ pub fn quoted(bytes: &[u8]) -> String {
     String::from_utf8(written(bytes)).expect("all bytes are ASCII")
 }
 
-/// What is no right value for a string's faults alone; no line of it is too long behind `X = `.
-pub fn faulty(random: &mut Random) -> String {
-    let string = string(random);
-    let right = quoted(&string);
-    let unclosed = &right[..right.len() - 1];
+/// What is no right value for a string's faults alone.
+pub struct Faulty {
+    pub value: String,
+    refusal: Refusal,
+    /// The place of the fault among the value's bytes.
+    at: usize,
+}
+
+impl Faulty {
+    fn new(value: String, refusal: Refusal, at: usize) -> Faulty {
+        Faulty { value, refusal, at }
+    }
+}
+
+/// A faulty value; no line of it is too long behind `X = `.
+pub fn faulty(random: &mut Random) -> Faulty {
+    let right = quoted(&string(random));
+    let (length, bad) = (right.len(), Refusal::BadValue);
     match random.below(6) {
-        0 => String::from(unclosed),
-        1 => format!("{right}{}", char::from(random.one(WRONG))),
-        2 => too_long(random),
-        3 => format!(
-            "(\n{right}\n{} )",
-            random.one(&["1", "1E99", "?", "( 'a' )"])
-        ),
-        4 => format!("( 1, 2\n{right} )"),
-        _ => format!(
-            "{right}{}",
-            random.one(&[",", ")", "(", " 'a'", " 1", " ,"])
-        ),
+        0 => Faulty::new(String::from(&right[..length - 1]), bad, 0),
+        1 => Faulty::new(format!("{right}{}", char::from(random.one(WRONG))), bad, 0),
+        2 => Faulty::new(too_long(random), bad, 0),
+        3 => {
+            let other = random.one(&["1", "1E99", "?", "( 'a' )"]);
+            Faulty::new(format!("(\n{right}\n{other} )"), bad, length + 3)
+        }
+        4 => Faulty::new(format!("( 1, 2\n{right} )"), bad, 7),
+        _ => {
+            let rest = random.one(&[",", ")", "(", " 'a'", " 1", " ,"]);
+            let at = length + usize::from(rest.starts_with(' '));
+            Faulty::new(format!("{right}{rest}"), Refusal::RestOfLine, at)
+        }
     }
 }
 

@@ -2,8 +2,8 @@
 
 use std::fmt;
 
-/// Success and the refusals.
-const NUMBERS: usize = 17;
+/// Success and the refusals, up to the largest number.
+const NUMBERS: usize = 22;
 
 /// Counts of answers by their number.
 #[derive(Clone, Copy, Debug, Default)]

@@ -180,7 +180,7 @@ pub fn delimiter(random: &mut Random, word: &str, end: &str) -> String {
 
 /// A data line that is faulty in one of many ways, without its end.
 pub fn faulty_line(random: &mut Random) -> Vec<u8> {
-    match random.below(14) {
+    match random.below(15) {
         0 | 1 => long_line(random),
         2 | 3 => bad_line(random),
         4 => format!("{} = {}", name(random), near(random)).into_bytes(),
@@ -194,10 +194,24 @@ pub fn faulty_line(random: &mut Random) -> Vec<u8> {
             let rest = random.one(&["x", ",", ")", "(", "1", "= 2", "1E99", "#"]);
             format!("{} = {} {rest}", name(random), inside(random)).into_bytes()
         }
-        9 | 10 => format!("{} = {}", name(random), faulty(random)).into_bytes(),
+        9 | 10 => format!("{} = {}", name(random), faulty(random).value).into_bytes(),
         8 => format!("{}{} = 1", name(random), "N".repeat(random.between(30, 36))).into_bytes(),
+        11 => open_list(random).into_bytes(),
         _ => random.one(FAULTS).as_bytes().to_vec(),
     }
+}
+
+/// A list that is empty, or that a delimiter line or the end of the text may find open.
+fn open_list(random: &mut Random) -> String {
+    let mut line = format!("{} = (", name(random));
+    if random.once_in(2) {
+        line.push_str(&inside(random));
+    } else {
+        line.push_str(random.one(&[")", " )", ",,)", "\n)", " ,\t) ?"]));
+    }
+    line.push_str(random.one(&["", " ", "\n", "\n\n", "\r\n \t", "\n,"]));
+    line.push_str(random.one(&["", "", "\n\\begindata", "\n \t\\begintext "]));
+    line
 }
 
 /// A line of about the limit and more, every second time one of a few words among blanks.
@@ -241,13 +255,27 @@ const FAULTS: &[&str] = &[
     "X +",
     "X + = 1",
     "X : 1",
+    "X   ",
+    "X\t?",
+    "  X-Y = 1",
     "X == 1",
+    "X =   ",
+    "X =+= 1",
     "= 1",
+    " \t= 1",
+    "  -1",
+    ", X = 1",
+    "?",
     "1",
     ")",
     "X = ()",
     "X = ( )",
     "X = ( ,, )",
+    "X = ( ) ?",
+    "X = )",
+    "X = ( 1\n  \\begintext",
+    "X = ( 1\n\n",
+    "X = ( 1\n \t",
     "X = ( 1",
     "X = (",
     "X = ( 1 ( 2 )",
@@ -256,6 +284,7 @@ const FAULTS: &[&str] = &[
     "X = ( 1 ), ",
     "X = ( 1 ) 2",
     "X = 1,",
+    "X = 1 \t ,",
     "X = 1)",
     "X = 1(",
     "X = ,1",

@@ -33,11 +33,15 @@ pub fn answer(call: &Call, pool: &mut [u64], buffers: &mut Buffers) -> Answer {
     }
 }
 
-/// A refusal has a number, a line and nothing else.
+/// A refusal has a number, a line, a column and nothing else.
 fn answered<T>(result: Result<T, Refused>, answer: impl Fn(T) -> Answer) -> Answer {
     match result {
         Ok(value) => answer(value),
-        Err(refused) => Answer::of(refused.refusal.number(), refused.line as u32),
+        Err(refused) => Answer::of(
+            refused.refusal.number(),
+            refused.line as u32,
+            refused.column as u32,
+        ),
     }
 }
 
