@@ -1,6 +1,8 @@
-//! A value's bytes to a double: document 01, "Text rules", the last two points.
+//! A value's bytes to a double: document 01, "Text rules", the last two points, with the class of
+//! document 02, K4.
 
 use crate::limits::{LARGEST_POWER, LARGEST_WHOLE};
+use crate::nearest::nearest;
 
 /// What a value's bytes are: a number of the class, no number at all, or one outside the class.
 #[derive(Clone, Copy, Debug, PartialEq)]
@@ -10,11 +12,8 @@ pub enum Reading {
     Class,
 }
 
-/// The powers of ten that are doubles.
-const POWERS: [f64; LARGEST_POWER as usize + 1] = [
-    1e0, 1e1, 1e2, 1e3, 1e4, 1e5, 1e6, 1e7, 1e8, 1e9, 1e10, 1e11, 1e12, 1e13, 1e14, 1e15, 1e16,
-    1e17, 1e18, 1e19, 1e20, 1e21, 1e22,
-];
+/// A whole number of this size has no place for one digit more.
+const WHOLE_CAP: u64 = LARGEST_WHOLE / 10 + 1;
 
 /// An exponent of this size is outside the class, however many digits follow the point: no memory
 /// has as many bytes.
@@ -56,12 +55,7 @@ pub fn read(value: &[u8]) -> Reading {
     if whole > LARGEST_WHOLE || power.unsigned_abs() > LARGEST_POWER {
         return Reading::Class;
     }
-    let ten = POWERS[power.unsigned_abs() as usize];
-    let size = if power >= 0 {
-        whole as f64 * ten
-    } else {
-        whole as f64 / ten
-    };
+    let size = nearest(whole, power as i32);
     Reading::Number(if negative { -size } else { size })
 }
 
@@ -83,10 +77,10 @@ fn digits(s: &[u8]) -> (&[u8], &[u8]) {
     s.split_at(end)
 }
 
-/// The digits read on from a whole number; everything over the class is one more than its limit.
+/// The digits read on from a whole number, capped.
 fn whole_number(digits: &[u8], from: u64) -> u64 {
     digits.iter().fold(from, |w, digit| {
-        (w * 10 + u64::from(digit - b'0')).min(LARGEST_WHOLE + 1)
+        w.min(WHOLE_CAP) * 10 + u64::from(digit - b'0')
     })
 }
 

@@ -9,6 +9,7 @@ pub mod decimal;
 pub mod layout;
 pub mod limits;
 pub mod listing;
+pub mod nearest;
 pub mod pool;
 pub mod refusal;
 pub mod rotation;

@@ -1,5 +1,5 @@
-//! The limits of document 01, each under its name; document 02 has the one of lines in K1 and those
-//! of strings in K2.
+//! The limits of document 01, each under its name; document 02 has the one of lines in K1,
+//! those of strings in K2 and that of whole numbers in K4.
 
 /// The bytes of a text that can be loaded.
 pub const TEXT_BYTES: usize = 65_536;
@@ -13,10 +13,10 @@ pub const NAME_BYTES: usize = 32;
 /// The bytes of a string, its quotes taken away and those inside undoubled.
 pub const STRING_BYTES: usize = 60;
 
-/// The largest whole number that a value's digits may give: 2^53.
-pub const LARGEST_WHOLE: u64 = 9_007_199_254_740_992;
+/// The largest whole number that a value's digits may give: 19 digits.
+pub const LARGEST_WHOLE: u64 = 9_999_999_999_999_999_999;
 
-/// The largest power of ten that a value may be multiplied with or divided by.
+/// The largest power of ten that a value's whole number may be multiplied with or divided by.
 pub const LARGEST_POWER: u64 = 22;
 
 /// The texts, statements and values of a pool.

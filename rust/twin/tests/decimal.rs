@@ -67,14 +67,21 @@ fn a_broken_form_is_told_before_the_class() {
 #[test]
 fn the_class_and_its_neighbours() {
     let inside = [
-        "9007199254740992",
-        "9007199254740992E22",
-        "9007199254740992E-22",
-        "9007199254740.992",
-        "0000000000000000000000000000000009007199254740992",
+        "9007199254740993",
+        "9999999999999999999",
+        "9999999999999999999E22",
+        "9999999999999999999E-22",
+        "-9.999999999999999999E40",
+        "9999999999.999999999",
+        ".9999999999999999999",
+        "0000000000000000000000000000000009999999999999999999",
+        "0.0000000000000000009999999999999999999E15",
+        "1.000000000000000000",
+        "1000000000000000000.",
         "1E22",
         "1.0E23",
         "1.00E24",
+        "1.000000000000000000E40",
         "1E-22",
         "0E22",
         "0E-22",
@@ -88,13 +95,22 @@ fn the_class_and_its_neighbours() {
         bits(value);
     }
     let outside = [
-        "9007199254740993",
-        "9007199254740993E-5",
-        "900719925474099.3",
-        "9007199254740992.0",
+        "10000000000000000000",
+        "10000000000000000000E-5",
+        "-1000000000000000000.0",
+        "1.0000000000000000000",
+        "9999999999999999999.0",
+        "0010000000000000000000",
+        "18446744073709551615",
         "18446744073709551616",
         "18446744073709551617",
+        "184467440737095516160",
+        "184467440737095516161",
         "99999999999999999999999999999999999999999999999999",
+        "9999999999999999999E23",
+        "9999999999999999999E-23",
+        "9.999999999999999999E41",
+        "9.999999999999999999E-5",
         "1E23",
         "10E23",
         "1E-23",
@@ -116,8 +132,20 @@ fn the_class_and_its_neighbours() {
 }
 
 #[test]
-fn marked_case_3() {
+fn document_004_s_number_is_refused_for_its_power_alone() {
+    let value = b"6.6443009930565219D-09";
+    assert_eq!(read(value), Reading::Class);
+    assert_eq!(
+        bits("6.6443009930565219D-06"),
+        6.6443009930565219e-6f64.to_bits()
+    );
+}
+
+#[test]
+fn marked_cases_3_and_4() {
     assert_eq!(bits("270.000"), 0x4070E00000000000);
+    assert_eq!(bits("9007199254740992"), 0x4340000000000000);
+    assert_eq!(bits("9007199254740993"), 0x4340000000000000);
 }
 
 #[test]
@@ -125,6 +153,7 @@ fn a_minus_flips_the_sign() {
     assert_eq!(bits("-0"), (-0.0f64).to_bits());
     assert_eq!(bits("-0.00E5"), (-0.0f64).to_bits());
     assert_eq!(bits("+0"), 0.0f64.to_bits());
+    assert_eq!(bits("-9007199254740993"), 0xC340000000000000);
 }
 
 #[test]
@@ -158,13 +187,13 @@ fn in_the_class_the_bits_are_the_nearest_double_s() {
 fn outside_the_class_is_found_by_whole_numbers() {
     let mut random = Random(4);
     for _ in 0..100_000 {
-        let whole = 9_007_199_254_740_992 - 50 + random.below(100);
-        let point = random.below(17) as usize;
+        let whole = 10_000_000_000_000_000_000 - 50 + random.below(100);
+        let point = random.below(19) as usize;
         let power = random.below(30) as i64 - 15 + random.one(&[-15, 0, 15]);
         let digits = whole.to_string();
         let (before, after) = digits.split_at(digits.len() - point);
         let value = format!("{before}.{after}E{}", power + point as i64);
-        let inside = whole <= 9_007_199_254_740_992 && power.abs() <= 22;
+        let inside = whole < 10_000_000_000_000_000_000 && power.abs() <= 22;
         match read(value.as_bytes()) {
             Reading::Number(_) => assert!(inside, "{value}"),
             Reading::Class => assert!(!inside, "{value}"),
@@ -175,12 +204,11 @@ fn outside_the_class_is_found_by_whole_numbers() {
 
 /// A value of the class in some of its many spellings.
 fn class_value(random: &mut Random) -> String {
-    let length = 1 + random.below(16);
+    let length = 1 + random.below(19);
     let mut whole = 0;
     for _ in 0..length {
         whole = whole * 10 + random.below(10);
     }
-    whole %= 9_007_199_254_740_993;
     let mut digits = "0".repeat(random.below(4) as usize) + &whole.to_string();
     let point = random.below(1 + digits.len() as u64) as usize;
     let power = random.below(45) as i64 - 22;

@@ -77,7 +77,8 @@ fn marked_texts() {
     admitted("", &[]);
     admitted("X = 1", &[]);
     admitted(data("X = 9007199254740992"), &["X = 9007199254740992"]);
-    refused(data("X = |9007199254740993"), Number);
+    admitted(data("X = 9007199254740993"), &["X = 9007199254740992"]);
+    refused(data("X = |10000000000000000000"), Number);
     admitted(
         data("X = 1E22\nX = 1.0E23"),
         &[
