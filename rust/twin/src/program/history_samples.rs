@@ -7,6 +7,7 @@ use twin::layout::{
 };
 use twin::limits::{LINE_BYTES, STATEMENTS, STRING_ROOM, TEXTS, TEXT_BYTES, VALUES};
 
+use super::history_numbers;
 use super::history_strings;
 use super::random::Random;
 use super::script::{data, Change, Script};
@@ -37,6 +38,7 @@ pub fn script() -> Vec<u8> {
     all_room(&mut script);
     damages(&mut script);
     history_strings::add(&mut script);
+    history_numbers::add(&mut script);
     mixtures(&mut script);
     script.bytes
 }
@@ -185,7 +187,7 @@ fn text_faults(s: &mut Script) {
         data("X = ("),
         data("X = ( )"),
         data("X = 1E23"),
-        data("X = 9007199254740993"),
+        data("X = 10000000000000000000"),
         data("X = 2\nY = 3\nZ = ?"),
         data("X = 2\nY = 3\nZ = ( 1 2\n3 1E99 )"),
         data("X = 2\n\n\nX = ( 1\n\n\n"),
@@ -212,7 +214,7 @@ fn text_faults(s: &mut Script) {
     s.fetch(9, "X");
     s.load(
         2,
-        &data("X = 9007199254740992\nX += 1E22\nX += 1.0E23\nX += 270.000"),
+        &data("X = ( 9007199254740992 9007199254740993 )\nX += 1E22\nX += 1.0E23\nX += 270.000"),
     );
     s.fetch(9, "X");
 }

@@ -1,7 +1,9 @@
 //! The subcommands, one a file, and what they share.
 
 pub mod bits;
+pub mod hard_numbers;
 pub mod histories;
+pub mod history_numbers;
 pub mod history_samples;
 pub mod history_strings;
 pub mod listing;
