@@ -68,7 +68,7 @@ fn compare(pair: &mut Pair, value: &[u8]) -> u32 {
 }
 
 /// A value as Rust's own parser reads it, D being its E.
-fn by_host(value: &[u8]) -> Option<f64> {
+pub fn by_host(value: &[u8]) -> Option<f64> {
     let value = std::str::from_utf8(value).ok()?;
     value.replace(['D', 'd'], "E").parse().ok()
 }
@@ -76,22 +76,26 @@ fn by_host(value: &[u8]) -> Option<f64> {
 /// A value of the class, in one of its many spellings.
 pub fn inside(random: &mut Random) -> String {
     let whole = whole(random);
-    let power = random.between(0, 2 * LARGEST_POWER as usize) as i64 - LARGEST_POWER as i64;
-    spelled(random, whole, power)
+    let power = power(random);
+    spelled(random, whole.into(), power)
 }
 
 /// A value of the right form that is just outside the class, or far outside.
 pub fn outside(random: &mut Random) -> String {
     let limit = LARGEST_POWER as i64;
     if random.once_in(2) {
-        let more = random.bits() >> random.between(10, 62);
-        let power = random.between(0, 2 * LARGEST_POWER as usize) as i64 - limit;
-        return spelled(random, LARGEST_WHOLE + 1 + more, power);
+        let more = random.bits() >> random.between(0, 63);
+        let power = power(random);
+        return spelled(
+            random,
+            u128::from(LARGEST_WHOLE) + 1 + u128::from(more),
+            power,
+        );
     }
     let beyond = random.one(&[1, 1, 1, 2, 10, 234, 4_294_967_296 - limit, 1 << 60]);
     let whole = random.one(&[0, 1, 7, LARGEST_WHOLE]);
     let sign = random.one(&[1, -1]);
-    spelled(random, whole, sign * (limit + beyond))
+    spelled(random, whole.into(), sign * (limit + beyond))
 }
 
 /// A value with some bytes changed, which may still be one.
@@ -116,19 +120,25 @@ pub fn near(random: &mut Random) -> String {
     String::from_utf8(value).expect("all bytes are ASCII")
 }
 
-/// A whole number of the class, often at its ends or of few digits.
+/// A power of ten of the class.
+fn power(random: &mut Random) -> i64 {
+    random.between(0, 2 * LARGEST_POWER as usize) as i64 - LARGEST_POWER as i64
+}
+
+/// A whole number of the class, often at its ends, at those of the doubles or of few digits.
 fn whole(random: &mut Random) -> u64 {
-    match random.below(8) {
+    match random.below(10) {
         0 => random.below(10) as u64,
         1 => LARGEST_WHOLE - random.below(4) as u64,
-        2 => 10_u64.pow(random.below(16) as u32),
-        _ => (random.bits() >> random.between(11, 63)).min(LARGEST_WHOLE),
+        2 => 10_u64.pow(random.below(19) as u32),
+        3 => (1 << 53) - 4 + random.below(8) as u64,
+        _ => (random.bits() >> random.between(0, 63)).min(LARGEST_WHOLE),
     }
 }
 
 /// One spelling of whole · 10^power: digits with or without a point, zeros before them, and an
 /// exponent that makes up for the digits after the point.
-fn spelled(random: &mut Random, whole: u64, power: i64) -> String {
+pub fn spelled(random: &mut Random, whole: u128, power: i64) -> String {
     let after = match random.below(4) {
         0 => 0,
         1 => (-power).clamp(0, 24) as usize,

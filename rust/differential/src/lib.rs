@@ -11,6 +11,7 @@ mod epochs;
 pub mod histories;
 pub mod kernels;
 mod library;
+pub mod long_numbers;
 pub mod orientations;
 mod pair;
 mod random;

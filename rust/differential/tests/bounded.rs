@@ -5,7 +5,7 @@ use std::io::{self, Write};
 use std::path::Path;
 
 use differential::{
-    damage, decimals, histories, kernels, orientations, strings, texts, Random, Tally,
+    damage, decimals, histories, kernels, long_numbers, orientations, strings, texts, Random, Tally,
 };
 
 const SEED: u64 = 2000;
@@ -58,6 +58,13 @@ fn decimal_strings() {
     let tally = decimals::run(&mut Random::new(SEED), 200_000);
     report("decimal strings", &tally);
     tally.expect([0, 6, 19], LEAST);
+}
+
+#[test]
+fn numbers_of_16_to_19_digits() {
+    let tally = long_numbers::run(&mut Random::new(SEED), 1_000_000);
+    report("numbers of 16 to 19 digits", &tally);
+    tally.expect([0], 1_000_000);
 }
 
 #[test]
