@@ -35,7 +35,7 @@ static const struct {
     [GLOBE_TEXT_TOO_LONG] = {"TEXT TOO LONG", "split the text: one has at most 65,536 bytes"},
     [GLOBE_LINE_TOO_LONG] = {"LINE TOO LONG", "break the line: a data line has at most 132 bytes"},
     [GLOBE_BAD_BYTE] = {"BAD BYTE", "retype the line in plain letters, digits, signs and blanks"},
-    [GLOBE_NUMBER] = {"NUMBER", "shorten the number: it has too many digits or too large a power"},
+    [GLOBE_NUMBER] = {"NUMBER", "shorten the number: it has over 19 digits or too steep a power"},
     [GLOBE_NO_ROOM] = {"NO ROOM", "remove a text: there is room for 16 texts, 512 statements, "
                                   "3,072 values and 8,192 bytes of strings"},
     [GLOBE_NOT_HELD] = {"NOT HELD", "look up the label: no text is held under it"},

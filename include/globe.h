@@ -22,9 +22,10 @@
  * several refusals apply, the answer is the one that is asked first; below, each call has its
  * refusals in that order.
  *
- * Arithmetic. The values are fixed to the last bit. For that the caller owes the default rounding,
- * to nearest; that small numbers are not flushed to zero, as linking with -ffast-math may have it;
- * and a C library whose fmod is exact.
+ * Arithmetic. The values are fixed to the last bit; a number of a text is the double nearest to it,
+ * and of two that are as near the one with the even significand. For that the caller owes the
+ * default rounding, to nearest; that small numbers are not flushed to zero, as linking with
+ * -ffast-math may have it; and a C library whose fmod is exact.
  *
  * Epochs are TDB seconds past J2000, which is JD 2451545.0 TDB (source document 001). Body codes
  * are NAIF codes; those with a meaning here are 1 to 10 and 100 to 999. A negative code, passed as
@@ -65,8 +66,9 @@ enum globe_number {
                                 (133) */
     GLOBE_BAD_BYTE = 4,      /* the data line has a byte that is neither 32 to 126 nor a tab (of the
                                 first such byte) */
-    GLOBE_NUMBER = 6,        /* too many digits, or a power of ten beyond 22 or -22, also of 0 (of
-                                the number's first byte) */
+    GLOBE_NUMBER = 6,        /* over 19 digits after leading zeros, or an exponent that less the
+                                digits after the point is beyond 22 or -22, also of 0 (of the
+                                number's first byte) */
     GLOBE_NO_ROOM = 7,       /* held and new are over 16 texts, 512 statements, 3,072 values or
                                 8,192 bytes of strings */
     GLOBE_NOT_HELD = 8,      /* the label is not held */

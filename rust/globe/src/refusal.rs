@@ -154,9 +154,10 @@ impl Refusal {
                  were pasted are the usual cause), or put a comment behind \\begintext"
             }
             Refusal::Number => {
-                "the number here cannot be read exactly; its digits without the point \
-                 make at most 9007199254740992, and its exponent less the digits after the point \
-                 is from -22 to 22, for a zero too: shorten it to 15 digits, or move its point"
+                "the number here has too many digits, or too large or too small a power of ten; it \
+                 may have 19 digits after leading zeros, and its exponent less the digits after \
+                 the point is from -22 to 22, for a zero too: take digits away at its end, or, for \
+                 too large a power, add zeros there, as in 1.0E23 for 1E23"
             }
             Refusal::NoRoom => {
                 "the pool has no room for the text: it holds 16 texts, 512 statements, 3,072 \

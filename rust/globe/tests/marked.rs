@@ -1,4 +1,4 @@
-//! The marked cases of document 01, asked of the library.
+//! The marked cases of document 01, the fourth as document 02 has it, asked of the library.
 
 use globe::{builtin_orientation, builtin_radii, Pool, Refusal, Refused};
 
@@ -43,14 +43,18 @@ fn values_have_their_bits() {
 }
 
 #[test]
-fn the_class_ends_at_two_to_the_53() {
-    assert_eq!(x(&pool_of("X = 9007199254740992")), [9007199254740992.0]);
+fn the_class_ends_at_19_digits() {
+    for rounded in ["9007199254740992", "9007199254740993"] {
+        let pool = pool_of(&format!("X = {rounded}"));
+        assert_eq!(x(&pool), [9007199254740992.0]);
+    }
+    assert_eq!(x(&pool_of("X = 9999999999999999999")), [1E19]);
     let number = Refused {
         refusal: Refusal::Number,
         line: 2,
         column: 5,
     };
-    assert_eq!(refused("X = 9007199254740993"), number);
+    assert_eq!(refused("X = 10000000000000000000"), number);
     assert_eq!(x(&pool_of("X = ( 1E22 1.0E23 )")), [1E22, 1E23]);
     assert_eq!(refused("X = 1E23"), number);
 }
