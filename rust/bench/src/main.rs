@@ -3,6 +3,7 @@
 
 mod facts;
 mod library;
+mod numbers;
 mod probes;
 mod stack;
 mod strings;

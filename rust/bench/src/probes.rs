@@ -3,6 +3,7 @@
 use globe_sys as sys;
 use twin::limits::{STRING_BYTES, VALUES};
 
+use crate::numbers;
 use crate::stack::{depth, Call};
 use crate::strings::full_pool;
 use crate::texts::{body, captions, kernel, system};
@@ -39,12 +40,15 @@ struct Lent {
 /// Each call with the bytes of its deepest stack.
 pub fn stacks() -> Vec<(&'static str, usize)> {
     let mut lent = Lent {
-        texts: vec![
+        texts: [
             kernel(),
             system(15),
             captions(0..15),
             String::from("\\begindata\nX = ( 1 2 1E99"),
-        ],
+        ]
+        .into_iter()
+        .chain(numbers::texts())
+        .collect(),
         name: b"BODY100_NUT_PREC_RA",
         buffer: vec![0.0; VALUES],
         caption: b"GLOBE14_CAPTION",

@@ -74,6 +74,35 @@ pub fn captions(globes: std::ops::Range<u32>) -> String {
     text
 }
 
+/// How a number is written: its digits, those of them after the point, and what follows them.
+pub struct Spelling {
+    pub digits: usize,
+    pub after: usize,
+    pub exponent: &'static str,
+}
+
+/// A text of one list of so many numbers, four a line.
+pub fn numbers(count: usize, spelling: &Spelling) -> String {
+    let mut text = String::from("\\begindata\nX = (");
+    for place in 0..count {
+        text.push(if place % 4 == 0 { '\n' } else { ' ' });
+        text.push_str(&number(place, spelling));
+    }
+    text.push_str(" )\n");
+    text
+}
+
+/// A number of its own for each place.
+fn number(place: usize, spelling: &Spelling) -> String {
+    const LEAST: u64 = 1_000_000_000_000_000_000;
+    const SPREAD: u64 = 0x9E37_79B9_7F4A_7C15;
+    let digits = LEAST + (place as u64).wrapping_mul(SPREAD) % (9 * LEAST);
+    let digits = &digits.to_string()[..spelling.digits];
+    let (before, fraction) = digits.split_at(spelling.digits - spelling.after);
+    let point = if fraction.is_empty() { "" } else { "." };
+    format!("{before}{point}{fraction}{}", spelling.exponent)
+}
+
 fn add_body(text: &mut String, body: u32) {
     for (word, count) in [
         ("POLE_RA", 3),

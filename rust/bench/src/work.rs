@@ -1,6 +1,6 @@
-//! What is measured: each call, on pools that hold 1, 6 and 16 texts, and then on a pool full of
-//! strings. Questions are about the text that was loaded first, and removals take that one out, so
-//! that all others stand after it.
+//! What is measured: each call, on pools that hold 1, 6 and 16 texts, then on a pool full of strings,
+//! and then the reading of a number. Questions are about the text that was loaded first, and removals
+//! take that one out, so that all others stand after it.
 
 use std::hint::black_box;
 
@@ -9,6 +9,7 @@ use twin::layout::WORDS;
 use twin::{answers, builtin, pool};
 
 use crate::library;
+use crate::numbers;
 use crate::strings;
 use crate::texts::{body, kernel, system};
 use crate::timing::{medians, Restore, Side};
@@ -74,6 +75,7 @@ pub fn measured() -> Vec<Row> {
     rows.push(oriented_by_table());
     rows.push(sized_by_table());
     rows.extend(strings::measured());
+    rows.extend(numbers::measured());
     rows
 }
 

@@ -27,7 +27,7 @@ pub fn nearest(whole: u64, power: i32) -> f64 {
     }
 }
 
-/// The nearest double where the whole number is one: both operands are, so it is rounded once.
+/// The same for whole numbers up to 2^53. Both operands are exact, so it is rounded once.
 pub fn by_doubles(whole: u64, power: i32) -> f64 {
     let ten = TENS[power.unsigned_abs() as usize];
     if power >= 0 {
@@ -37,7 +37,7 @@ pub fn by_doubles(whole: u64, power: i32) -> f64 {
     }
 }
 
-/// The nearest double to any whole number's.
+/// The same for all whole numbers.
 ///
 /// 10^power is 5^power · 2^power, and a power of two leaves a double's significand as it is. What
 /// remains is a fraction of whole numbers. Brought from 2^52 up to 2^53 by a power of two, it lies
