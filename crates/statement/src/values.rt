@@ -108,28 +108,13 @@ pub fn count_items(kind: Kind, line: &[u8], at: usize) -> Counted
         let item = next_item(kind, line, i);
         match item {
             Item::End => {
-                return Counted {
-                    kind: kind,
-                    given: given,
-                    bytes: bytes,
-                    stop: Stop::End,
-                };
+                return stopped(kind, given, bytes, Stop::End);
             }
             Item::Close(k) => {
-                return Counted {
-                    kind: kind,
-                    given: given,
-                    bytes: bytes,
-                    stop: Stop::Close(k),
-                };
+                return stopped(kind, given, bytes, Stop::Close(k));
             }
             Item::Fault(fault, place) => {
-                return Counted {
-                    kind: kind,
-                    given: given,
-                    bytes: bytes,
-                    stop: Stop::Fault(fault, place),
-                };
+                return stopped(kind, given, bytes, Stop::Fault(fault, place));
             }
             Item::Number(_, end) => {
                 i = end;
@@ -146,11 +131,18 @@ pub fn count_items(kind: Kind, line: &[u8], at: usize) -> Counted
             }
         }
     }
+    stopped(kind, given, bytes, Stop::End)
+}
+
+// The values so far, and what ends them.
+fn stopped(kind: Kind, given: usize, bytes: usize, stop: Stop) -> Counted
+    ensures { λ r. ⌜ r ≡ record { kind = kind; given = given; bytes = bytes; stop = stop } ⌝ }
+{
     Counted {
         kind: kind,
         given: given,
         bytes: bytes,
-        stop: Stop::End,
+        stop: stop,
     }
 }
 

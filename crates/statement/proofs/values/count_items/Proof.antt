@@ -25,26 +25,38 @@ next-item-requires c κs = search needs
 enum-told : tie.Need-enum-told Inv-loop μ-loop
 enum-told c = search needs
 
+stopped-requires : tie.Need-stopped-requires Inv-loop μ-loop
+stopped-requires c κs = search needs
+
 returns : tie.Need-returns Inv-loop μ-loop
 returns c =
-    let a = c .before .before .before in
-    at-end _ _ _ _ _ _ (a .loop-test .taken) _ (c .before .before .next-item .ensures) (c .enum-told .given .1) ∙ a .before .loop .inv .2
+    let d = c .before in
+    let a = d .before .before .before in
+    c .stopped .ensures ∙ at-end _ _ _ _ _ _ (a .loop-test .taken) _ (d .before .before .next-item .ensures) (d .enum-told .given .1) ∙ a .before .loop .inv .2
 
 enum-known-item : tie.Need-enum-known-item Inv-loop μ-loop
 enum-known-item c = search needs
 
+stopped-requires-2 : tie.Need-stopped-requires-2 Inv-loop μ-loop
+stopped-requires-2 c κs = search needs
+
 returns-2 : tie.Need-returns-2 Inv-loop μ-loop
 returns-2 c =
-    let a = c .before .before .before .before in
-    at-close _ _ _ _ _ _ (a .loop-test .taken) _ (c .before .before .before .next-item .ensures) _ (c .before .item .given .1) ∙ a .before .loop .inv .2
+    let d = c .before .before in
+    let a = d .before .before .before in
+    c .stopped2 .ensures ∙ at-close _ _ _ _ _ _ (a .loop-test .taken) _ (d .before .before .next-item .ensures) _ (d .item .given .1) ∙ a .before .loop .inv .2
 
 enum-known-item-2 : tie.Need-enum-known-item-2 Inv-loop μ-loop
 enum-known-item-2 c = search needs
 
+stopped-requires-3 : tie.Need-stopped-requires-3 Inv-loop μ-loop
+stopped-requires-3 c κs = search needs
+
 returns-3 : tie.Need-returns-3 Inv-loop μ-loop
 returns-3 c =
-    let a = c .before .before .before .before in
-    at-fault _ _ _ _ _ _ (a .loop-test .taken) _ (c .before .before .before .next-item .ensures) _ _ (c .before .item2 .given .1) ∙ a .before .loop .inv .2
+    let d = c .before .before in
+    let a = d .before .before .before in
+    c .stopped3 .ensures ∙ at-fault _ _ _ _ _ _ (a .loop-test .taken) _ (d .before .before .next-item .ensures) _ _ (d .item2 .given .1) ∙ a .before .loop .inv .2
 
 enum-known-item-3 : tie.Need-enum-known-item-3 Inv-loop μ-loop
 enum-known-item-3 c = search needs
@@ -94,8 +106,11 @@ loop-again-2 c =
       at-string _ _ _ _ _ _ (a .loop-test .taken) _ (c .before .before .before .next-item .ensures) _ _ _ (c .before .item4 .given .1) ∙ a .before .loop .inv .2,
     )
 
+stopped-requires-4 : tie.Need-stopped-requires-4 Inv-loop μ-loop
+stopped-requires-4 c κs = search needs
+
 returns-4 : tie.Need-returns-4 Inv-loop μ-loop
-returns-4 c = at-last _ _ _ _ _ _ (omega (arith, c .loop-test .left)) ∙ c .before .loop .inv .2
+returns-4 c = c .stopped4 .ensures ∙ at-last _ _ _ _ _ _ (omega (arith, c .before .loop-test .left)) ∙ c .before .before .loop .inv .2
 
 pub count-items-spec : {M : Type 1} → statement M
 count-items-spec =
@@ -106,10 +121,13 @@ count-items-spec =
     loop-holds
     next-item-requires
     enum-told
+    stopped-requires
     returns
     enum-known-item
+    stopped-requires-2
     returns-2
     enum-known-item-2
+    stopped-requires-3
     returns-3
     enum-known-item-3
     add-given
@@ -122,4 +140,5 @@ count-items-spec =
     sub-left-2
     loop-less-2
     loop-again-2
+    stopped-requires-4
     returns-4)
