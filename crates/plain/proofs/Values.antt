@@ -36,19 +36,24 @@ pub value-unique : (f : Format) (x y : Float) (s : Bool) (a c : ℕ) → 0 < c �
 value-unique f x y s a c C p q v w = sym (ofBits-toBits f x p) ∙ ap (ofBits f) (same-bits f x y s a c C v w) ∙ ofBits-toBits f y q
 
 -- 2 ^ e in units of the smallest value
-in-units : (l : ℕ) (e : ℤ) → down e ≤ 2 ^ l → (j : ℕ) × (up e * 2 ^ l ≡ 2 ^ j * down e)
-in-units l (pos k) h = (k + l, sym (pow-add 2 k l) ∙ sym (mul-one (2 ^ (k + l))))
-in-units l (negsuc k) h =
+place : (l : ℕ) (e : ℤ) → down e ≤ 2 ^ l → (j : ℕ) × (up e * 2 ^ l ≡ 2 ^ j * down e)
+place l (pos k) h = (k + l, sym (pow-add 2 k l) ∙ sym (mul-one (2 ^ (k + l))))
+place l (negsuc k) h =
     let reach : suc k ≤ l = le-of-suc-le-suc (lt-of-not-le (λ (g : suc l ≤ suc k). not-le-of-lt (pow-lt g) h)) in
     (l - suc k, one-mul (2 ^ l) ∙ ap (λ (x : ℕ). 2 ^ x) (sym (sub-add-cancel reach)) ∙ pow-add 2 (l - suc k) (suc k))
+
+pub in-units : (l m : ℕ) (e : ℤ) → down e ≤ 2 ^ l → (j : ℕ) × (m * up e * 2 ^ l ≡ m * 2 ^ j * down e)
+in-units l m e h =
+    let p = place l e h in
+    (p .0, mul-assoc m (up e) (2 ^ l) ∙ ap (λ (x : ℕ). m * x) (p .1) ∙ sym (mul-assoc m (2 ^ p .0) (down e)))
 
 exact : (f : Format) (s : Bool) (m : ℕ) (e : ℤ) → m < 2 ^ prec f → down e ≤ 2 ^ low f → m * up e < 2 ^ suc (emax f) * down e
     → HasValue (round f s (m * up e) (down e)) s (m * up e) (down e)
 exact f s m e short fine small =
     let l = 2 ^ low f in
-    let u = in-units (low f) e fine in
+    let u = in-units (low f) m e fine in
     let j = u .0 in
-    let whole : m * up e * l ≡ m * 2 ^ j * down e = mul-assoc m (up e) l ∙ ap (λ (x : ℕ). m * x) (u .1) ∙ sym (mul-assoc m (2 ^ j) (down e)) in
+    let whole : m * up e * l ≡ m * 2 ^ j * down e = u .1 in
     let room : 2 ^ suc (emax f) * down e * l ≡ 2 ^ (low f + suc (emax f)) * down e =
     mul-right-comm (2 ^ suc (emax f)) (down e) l
     ∙ ap (λ (x : ℕ). x * down e) (mul-comm (2 ^ suc (emax f)) l ∙ sym (pow-add 2 (low f) (suc (emax f)))) in

@@ -5,4 +5,5 @@ pub mod Bytes
 pub mod Ascii
 pub mod Runs
 pub mod Sizes
+pub mod Nearest
 pub mod Lists
