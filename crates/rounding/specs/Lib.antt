@@ -1,0 +1,3 @@
+-- Powers of ten, and whole numbers scaled by them.
+pub mod Exact
+pub mod Leading
