@@ -1,50 +1,28 @@
--- "Both operands are exact, so it is rounded once": up to the largest w every whole number is a double, and up to the steepest k every power
--- of ten, since 5^22 has no more digits than a double keeps. Assumes nothing.
-use Prim.Native.Nat.{ℕ, zero, suc, _+_, _*_, _^_, _≤_, _<_}
-use mathlib.Core.Path.{_≡_, refl, ap, sym, subst, _∙_}
-use mathlib.Core.Bool.{false}
-use native.Mathlib.Nat.{lt-of-le-of-lt, one-le-pow, mul-one, mul-assoc, mul-mul-mul-comm, mul-le-mul-right, pow-suc, pow-le-pow-right}
-use lib.Dec.{lit<}
-use lib.IntN.{pos, negsuc}
-use lib.Pow.{pow-add}
-use lib.Ieee.{binary64, low, emax, ofInt, round}
-use lib.Ieee.Back.{round-whole}
-use lib.Ieee.Exact.{HasValue, round-exact}
-use Rattle.plain.proofs.Products.{mul-of-values, div-of-values}
-use Rattle.decimal.specs.Class.{LARGEST, STEEPEST, double, scaledBy}
+-- "In the old class the bits are proved unchanged": there one multiplication or division of exact operands rounds w·10^k once. Assumes nothing.
+use Prim.Native.Nat.{ℕ, suc, _<_}
+use mathlib.Core.Path.{_≡_, sym, ap}
+use mathlib.Core.Bool.{Bool, true}
+use native.Mathlib.Omega.{arith}
+use lib.Dec.{leb}
+use lib.IntN.{ℤ, pos, negsuc, natAbs}
+use lib.Ieee.{Float}
+use borrow.Author.Tests.{leb-true, lt-ltb}
+use Rattle.plain.proofs.Tests.{both}
+use Rattle.rounding.specs.Exact.{LARGEST, STEEPEST}
+use Rattle.rounding.proofs.Exact.{times-once, over-once}
+use Rattle.decimal.specs.Form.{number}
+use Rattle.decimal.specs.Class.{FAR, scaledBy, signed, valued}
+use Rattle.decimal.specs.Before.{inClassBefore, scaledBefore}
+use Rattle.decimal.specs.declared.Reading.the-variants.{Number}
 
-pub whole-exact : (w : ℕ) → w ≤ LARGEST → HasValue (double w) false w 1
-unfolding ofInt
-whole-exact w h = round-whole binary64 false w h
+pub old-class : (w : ℕ) (k : ℤ) → inClassBefore w k ≡ true → scaledBy w k ≡ scaledBefore w k
+old-class w (pos k) e = let b = both (leb w LARGEST) (leb k STEEPEST) e in sym (times-once k (leb-true k STEEPEST (b .1)) w (leb-true w LARGEST (b .0)))
+old-class w (negsuc k) e =
+    let b = both (leb w LARGEST) (leb (suc k) STEEPEST) e in sym (over-once (suc k) (leb-true (suc k) STEEPEST (b .1)) w (leb-true w LARGEST (b .0)))
 
-ten-pow : (k : ℕ) → 10 ^ k ≡ 5 ^ k * 2 ^ k
-ten-pow zero = refl
-ten-pow (suc k) =
-    pow-suc 10 k
-    ∙ ap (λ (n : ℕ). n * 10) (ten-pow k)
-    ∙ mul-mul-mul-comm (5 ^ k) (2 ^ k) 5 2
-    ∙ ap (λ (n : ℕ). n * (2 ^ k * 2)) (sym (pow-suc 5 k))
-    ∙ ap (λ (n : ℕ). 5 ^ suc k * n) (sym (pow-suc 2 k))
-
-pub power-exact : (k : ℕ) → k ≤ STEEPEST → HasValue (double (10 ^ k)) false (10 ^ k) 1
-unfolding ofInt
-power-exact k h =
-    let l = low binary64 in
-    let e : 10 ^ k * 2 ^ l ≡ 5 ^ k * 2 ^ (k + l) =
-    ap (λ (n : ℕ). n * 2 ^ l) (ten-pow k) ∙ mul-assoc (5 ^ k) (2 ^ k) (2 ^ l) ∙ ap (λ (n : ℕ). 5 ^ k * n) (sym (pow-add 2 k l)) in
-    let five : 5 ^ k ≤ 5 ^ STEEPEST = pow-le-pow-right (lit< tt) h in
-    let ten : 10 ^ k ≤ 10 ^ STEEPEST = pow-le-pow-right (lit< tt) h in
-    round-exact binary64 false (10 ^ k) 1 (5 ^ k) (k + l) (lit< tt) (lt-of-le-of-lt five (lit< tt))
-    (subst (λ (n : ℕ). n < 2 ^ (l + suc (emax binary64))) e (lt-of-le-of-lt (mul-le-mul-right (2 ^ l) ten) (lit< tt)))
-    (e ∙ sym (mul-one (5 ^ k * 2 ^ (k + l))))
-
--- the value is rounded once
-pub times-once : (w k : ℕ) → w ≤ LARGEST → k ≤ STEEPEST → scaledBy w (pos k) ≡ round binary64 false (w * 10 ^ k) 1
-times-once w k h g =
-    mul-of-values binary64 (double w) (double (10 ^ k)) false false w 1 (10 ^ k) 1 (lit< tt) (lit< tt) (whole-exact w h) (power-exact k g)
-
-pub over-once : (w k : ℕ) → w ≤ LARGEST → suc k ≤ STEEPEST → scaledBy w (negsuc k) ≡ round binary64 false w (10 ^ suc k)
-over-once w k h g =
-    div-of-values binary64 (double w) (double (10 ^ suc k)) false false w 1 (10 ^ suc k) 1 (lit< tt) (lit< tt) (one-le-pow (suc k) 10 (lit< tt)) (whole-exact w h) (power-exact (suc k) g)
-    ∙ ap (λ (n : ℕ). round binary64 false n (10 ^ suc k * 1)) (mul-one w)
-    ∙ ap (λ (n : ℕ). round binary64 false w n) (mul-one (10 ^ suc k))
+-- what was a number of the old class is the same number
+pub same-number : (m : Bool) (w : ℕ) (k : ℤ) → inClassBefore w k ≡ true → valued (number m w k) ≡ Number (signed m (scaledBefore w k))
+same-number m w k e =
+    let b = both (leb w LARGEST) (leb (natAbs k) STEEPEST) e in
+    let h : w < FAR = omega (arith, leb-true w LARGEST (b .0)) in
+    rw (lt-ltb w FAR h, b .1) (ap (λ (x : Float). Number (signed m x)) (old-class w k e))

@@ -1,6 +1,7 @@
 -- What is true of every value that is read.
 pub mod Exact
 pub mod Bounded
+pub mod Nearest
 pub mod Refused
 -- Laws on the parts of a value, for the proofs of this crate.
 mod Alike

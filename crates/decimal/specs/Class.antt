@@ -1,37 +1,37 @@
--- "Each reading of a value is either a number in the class or a refusal: w at most 9,007,199,254,740,992 and k from −22 to 22, also
--- for zero. The value is w as a double, times 10^k once if k ≥ 0, else divided by 10^−k once, then negated for a minus." Definitions only.
-use Prim.Native.Nat.{ℕ, suc, _^_}
-use mathlib.Core.Bool.{Bool, _&&_}
+-- "Each reading of a value is either a number in the class or a refusal". Document 02, K4: "w up to 19 significant digits after leading zeros, k from
+-- −22 to 22. The value is the double nearest to the exact w·10^k, ties to the even significand", then "negated for a minus". Definitions only.
+use Prim.Native.Nat.{ℕ, suc, _*_, _^_}
+use mathlib.Core.Bool.{Bool, false, _&&_}
 use mathlib.Core.List.{List}
-use lib.Dec.{leb}
+use lib.Dec.{ltb, leb}
 use lib.IntN.{ℤ, pos, negsuc, natAbs}
-use lib.Ieee.{Float, binary64, ofInt, neg}
+use lib.Ieee.{Float, binary64, neg, round}
 use Rattle.plain.specs.Choice.{if_then_else_}
-use Rattle.plain.specs.Doubles.{_⊗_, _⊘_}
 use Rattle.refusal.specs.declared.Refusal.the-variants as R
+use Rattle.rounding.specs.Exact.{STEEPEST}
 use Rattle.decimal.specs.Form.{Written, number, broken, written}
 use Rattle.decimal.specs.declared.Reading.{Reading}
 use Rattle.decimal.specs.declared.Reading.the-variants.{Number, BadForm, OutsideClass}
 
--- the largest w: 2^53, up to which every whole number is a double
-abbrev pub LARGEST : ℕ
-LARGEST = 9007199254740992
-
--- the largest size of k: up to it every power of ten is a double
-abbrev pub STEEPEST : ℕ
-STEEPEST = 22
+-- the first w past the class: 10^19, the least with 20 digits
+abbrev pub FAR : ℕ
+FAR = 10000000000000000000
 
 abbrev pub inClass : (w : ℕ) (k : ℤ) → Bool
-inClass w k = leb w LARGEST && leb (natAbs k) STEEPEST
+inClass w k = ltb w FAR && leb (natAbs k) STEEPEST
 
--- a whole number as a double
-abbrev pub double : ℕ → Float
-double w = ofInt binary64 (pos w)
+-- the exact w·10^k as a fraction
+abbrev pub top : (w : ℕ) (k : ℤ) → ℕ
+top w (pos k) = w * 10 ^ k
+top w (negsuc k) = w
 
--- w times 10^k, or w divided by 10^−k, rounded once
+abbrev pub bottom : (k : ℤ) → ℕ
+bottom (pos k) = 1
+bottom (negsuc k) = 10 ^ suc k
+
+-- the double nearest to w·10^k: the fraction, rounded once
 abbrev pub scaledBy : (w : ℕ) (k : ℤ) → Float
-scaledBy w (pos k) = double w ⊗ double (10 ^ k)
-scaledBy w (negsuc k) = double w ⊘ double (10 ^ suc k)
+scaledBy w k = round binary64 false (top w k) (bottom k)
 
 -- negated for a minus
 abbrev pub signed : (minus : Bool) → Float → Float

@@ -1,35 +1,33 @@
 // The class and the double of a number in it: document 01, "either a number in the class or a refusal".
 use super::Reading;
-use super::power::power;
+use super::digits::FAR;
 use refusal::Refusal;
+use rounding::over;
+use rounding::times;
 ghost use mathlib.Core.Path.{_≡_};
 ghost use Prim.Native.Nat.{_+_, _-_};
 ghost use lib.IntN.{pos, _-ℤ_};
 ghost use Rattle.decimal.specs.Form.{number};
 ghost use Rattle.decimal.specs.Class.{signed, valued};
 
-// The largest w, up to which every whole number is a double.
-const LARGEST: u64 = 9007199254740992;
-
 // The largest size of k, up to which every power of ten is a double.
 const STEEPEST: u64 = 22;
 
-// w times 10^k once if k ≥ 0, else divided by 10^−k once, then negated for a minus. k is `up` less `down`.
+// The double nearest to w · 10^k, then negated for a minus. k is `up` less `down`.
 pub(crate) fn scale(minus: bool, w: u64, up: u64, down: u64) -> Reading
     ensures { λ r. ⌜ r ≡ valued (number minus w (pos up -ℤ pos down)) ⌝ }
 {
-    if w > LARGEST {
+    if w >= FAR {
         return Reading::OutsideClass(Refusal::Number);
     }
     let k = distance(up, down);
     if k > STEEPEST {
         return Reading::OutsideClass(Refusal::Number);
     }
-    let ten = power(k);
     if up < down {
-        return Reading::Number(negate_for(minus, (w as f64) / ten));
+        return Reading::Number(negate_for(minus, over(w, k)));
     }
-    Reading::Number(negate_for(minus, (w as f64) * ten))
+    Reading::Number(negate_for(minus, times(w, k)))
 }
 
 // The larger less the smaller.

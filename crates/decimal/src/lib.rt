@@ -2,7 +2,6 @@
 mod class;
 mod digits;
 mod exponent;
-mod power;
 mod sign;
 mod whole;
 
