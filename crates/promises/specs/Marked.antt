@@ -116,9 +116,12 @@ undelimited = accepts (ascii "X = 1") && adds 0 (ascii "X = 1")
 abbrev pub threePlaces : Bool
 threePlaces = hasBits 0x4070E00000000000 (reading (ascii "270.000"))
 
--- 4. 9007199254740992 accepted, …993 refused 6.
+-- 4. 9007199254740992 accepted; by document 02's K4 …993 too, which rounds to …992, and so on up to 19 digits; 20 digits refused 6.
 abbrev pub largest : Bool
-largest = accepts (inData "X = 9007199254740992") && answers 6 2 5 (inData "X = 9007199254740993")
+largest =
+    accepts (inData "X = 9007199254740992") && accepts (inData "X = 9007199254740993")
+    && hasBits 0x4340000000000000 (reading (ascii "9007199254740992")) && hasBits 0x4340000000000000 (reading (ascii "9007199254740993"))
+    && accepts (inData "X = 9999999999999999999") && answers 6 2 5 (inData "X = 10000000000000000000")
 
 -- 5. `1E22` and `1.0E23` accepted, `1E23` refused 6.
 abbrev pub steepest : Bool
