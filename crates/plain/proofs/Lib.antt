@@ -3,7 +3,6 @@ pub mod Ranges
 pub mod Tests
 pub mod Each
 pub mod Runs
-pub mod Tables
 pub mod Places
 pub mod Rounding
 pub mod Scaling

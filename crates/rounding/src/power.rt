@@ -1,40 +1,14 @@
-// The powers of ten that are doubles, and those of five.
+// The powers of ten that are doubles, and those of five, worked out when they are needed.
 ghost use mathlib.Core.Path.{_≡_};
 ghost use Prim.Native.Nat.{_*_, _%_, _^_, _≤_, _<_};
 ghost use Rattle.rounding.specs.Exact.{STEEPEST, double};
 
-const POWERS: [f64; 23] = [
-    1.0,
-    10.0,
-    100.0,
-    1000.0,
-    10000.0,
-    100000.0,
-    1000000.0,
-    10000000.0,
-    100000000.0,
-    1000000000.0,
-    10000000000.0,
-    100000000000.0,
-    1000000000000.0,
-    10000000000000.0,
-    100000000000000.0,
-    1000000000000000.0,
-    10000000000000000.0,
-    100000000000000000.0,
-    1000000000000000000.0,
-    10000000000000000000.0,
-    100000000000000000000.0,
-    1000000000000000000000.0,
-    10000000000000000000000.0,
-];
-
-// 10^k.
+// 10^k: 5^k times 2^k, which are doubles, and so is their product.
 pub(crate) fn power(k: u64) -> f64
     requires { ⌜ k ≤ STEEPEST ⌝ }
     ensures { λ r. ⌜ r ≡ double (10 ^ k) ⌝ }
 {
-    POWERS[k as usize]
+    (five(k) as f64) * ((1u64 << k) as f64)
 }
 
 // 5^k: the squares of five for the binary digits of k.

@@ -1,51 +1,52 @@
--- `power` meets its contract: the bits of each entry of the table are those of the power of ten at its place, which antt computes.
--- Assumes nothing.
-use Prim.Native.Nat.{ℕ, _^_, _<_}
-use mathlib.Core.Path.{_≡_, ap, sym, _∙_}
-use mathlib.Core.Bool.{Bool}
-use mathlib.Core.List.{List, [], _∷_}
-use native.Mathlib.Omega.{arith}
-use lib.Dec.{eqb, eqb→eq}
-use lib.IntN.{pos}
-use lib.ListN.{length, getD, List·getD-map}
-use lib.Ieee.{binary64, ofBits, toBits, ofInt, size, span, climb, round, units, odd}
-use lib.Ieee.Bits.{ofBits-toBits}
-use lib.Ieee.Fits.{ofInt-fits}
+-- `power` meets its contract: 5^k and 2^k are doubles, and their product is rounded once. Assumes nothing.
+use Prim.Native.Nat.{ℕ, _*_, _%_, _^_, _≤_}
+use mathlib.Core.Path.{_≡_, sym, ap, ap₂, _∙_}
+use mathlib.Core.Bool.{false}
+use native.Mathlib.Nat.{le-trans, le-of-eq, lt-of-le-of-lt, one-mul, mod-eq-of-lt, pow-le-pow-right}
 use borrow.Author.Needs.{needs}
-use Rattle.plain.proofs.Tables.{at}
-use Rattle.rounding.specs.Exact.{double}
+use lib.Dec.{le→leb, lit<, lit≤}
+use lib.Ieee.{binary64, inFloat, ofInt, round}
+use Rattle.plain.specs.Doubles.{_⊗_}
+use Rattle.plain.proofs.Products.{mul-of-values}
+use Rattle.rounding.specs.Exact.{STEEPEST, LARGEST, double}
+use Rattle.rounding.proofs.Exact.{whole-exact, ten-pow}
 use Rattle.rounding.proofs.power.power.Statement.{statement}
 use Rattle.rounding.proofs.power.power.Tie as tie
 
-abbrev patterns : List ℕ
-patterns =
-    4607182418800017408 ∷ 4621819117588971520 ∷ 4636737291354636288 ∷ 4652007308841189376 ∷ 4666723172467343360 ∷ 4681608360884174848
-    ∷ 4696837146684686336 ∷ 4711630319722168320 ∷ 4726483295884279808 ∷ 4741671816366391296 ∷ 4756540486875873280 ∷ 4771362005757984768
-    ∷ 4786511204640096256 ∷ 4801453603149578240 ∷ 4816244402031689728 ∷ 4831355200913801216 ∷ 4846369599423283200 ∷ 4861130398305394688
-    ∷ 4876203697187506176 ∷ 4891288408196988160 ∷ 4906019910204099648 ∷ 4921056587992461136 ∷ 4936209963552724370 ∷ []
+module _ (k : ℕ) (K : k ≤ STEEPEST) where
+  five-most : 5 ^ k ≤ LARGEST
+  five-most = le-trans (pow-le-pow-right (lit< tt) K) (lit≤ tt)
 
--- what is read past the table, where nothing is
-abbrev NAN : ℕ
-NAN = 9221120237041090560
+  two-most : 2 ^ k ≤ LARGEST
+  two-most = le-trans (pow-le-pow-right (lit< tt) K) (lit≤ tt)
 
-right : ℕ → ℕ → Bool
-right k pattern = eqb (toBits binary64 (double (10 ^ k))) pattern
+  two-is : 1 * 2 ^ k % 18446744073709551616 ≡ 2 ^ k
+  two-is = ap (λ (n : ℕ). n % 18446744073709551616) (one-mul (2 ^ k)) ∙ mod-eq-of-lt (lt-of-le-of-lt two-most (lit< tt))
 
-entry : (k : ℕ) → k < length patterns → ofBits binary64 (getD patterns k NAN) ≡ double (10 ^ k)
-unfolding right toBits ofInt size span climb round units odd
-entry k h =
-    ap (ofBits binary64) (sym (eqb→eq (toBits binary64 (double (10 ^ k))) (getD patterns k NAN) (at right patterns NAN tt k h)))
-    ∙ ofBits-toBits binary64 (double (10 ^ k)) (ofInt-fits binary64 (pos (10 ^ k)))
+  ten-is : (n : ℕ) → n ≡ 5 ^ k → double n ⊗ double (1 * 2 ^ k % 18446744073709551616) ≡ double (10 ^ k)
+  unfolding ofInt
+  ten-is n e =
+      ap₂ (λ (p q : ℕ). double p ⊗ double q) e two-is
+      ∙ mul-of-values binary64 (double (5 ^ k)) (double (2 ^ k)) false false (5 ^ k) 1 (2 ^ k) 1 (lit< tt) (lit< tt) (whole-exact (5 ^ k) five-most) (whole-exact (2 ^ k) two-most)
+      ∙ ap (λ (n : ℕ). round binary64 false n 1) (sym (ten-pow k))
 
-mul-result : tie.Need-mul-result
-mul-result c = search needs
+five-requires : tie.Need-five-requires
+five-requires c κs = search needs
 
-array-read-result : tie.Need-array-read-result
-array-read-result c = search needs
+int-to-float-result : tie.Need-int-to-float-result
+unfolding inFloat
+int-to-float-result c = let s = c .before .before in le→leb _ _ (le-trans (le-of-eq (c .before .five .ensures)) (five-most (s .args .k) (s .pre)))
+
+shl-result : tie.Need-shl-result
+shl-result c = search needs
+
+int-to-float-result-2 : tie.Need-int-to-float-result-2
+unfolding inFloat
+int-to-float-result-2 c = let s = c .before .before .before in le→leb _ _ (le-trans (le-of-eq (two-is (s .args .k) (s .pre))) (two-most (s .args .k) (s .pre)))
 
 returns : tie.Need-returns
-unfolding ofBits
-returns c = List·getD-map (ofBits binary64) patterns (c .args .k) NAN ∙ entry (c .args .k) (omega arith)
+returns c = let s = c .before .before .before in ten-is (s .args .k) (s .pre) (c .before .before .five .result) (c .before .before .five .ensures)
 
 pub power-spec : {M : Type 1} → statement M
-power-spec = tie.close (tie.spec mul-result array-read-result returns)
+power-spec =
+    tie.close (tie.spec five-requires int-to-float-result shl-result int-to-float-result-2 returns)
