@@ -21,6 +21,7 @@ pub record OneOfFive (n : ℕ) : Type 0 where
 data Became (b n : ℕ) : Type 0 where
   split : b ≡ SYNTAX → 17 ≤ n → n ≤ 21 → Became b n
   kept : b ≡ n → n < 17 → (n ≡ SYNTAX → ⊥) → Became b n
+  added : b ≡ n → 21 < n → Became b n
 
 became : (q : Refusal) → Became (numberBefore q) (numberOf q)
 became R.LabelHeld = kept refl (omega arith) (λ e. omega arith)
@@ -43,6 +44,7 @@ became R.NoOperator = split refl (omega arith) (omega arith)
 became R.BadValue = split refl (omega arith) (omega arith)
 became R.OpenList = split refl (omega arith) (omega arith)
 became R.RestOfLine = split refl (omega arith) (omega arith)
+became R.BadRadius = added refl (omega arith)
 
 -- the five numbers stand where 5 stood, and nowhere else
 pub five-split : (q : Refusal) → (numberBefore q ≡ SYNTAX) ↔ OneOfFive (numberOf q)
@@ -51,6 +53,7 @@ five-split q = by (became q)
     by : Became (numberBefore q) (numberOf q) → (numberBefore q ≡ SYNTAX) ↔ OneOfFive (numberOf q)
     by (split e h g) = (λ x. record { least = h; most = g }, λ x. e)
     by (kept e h g) = (λ x. absurd (g (sym e ∙ x)), λ x. absurd (omega (arith, x .least)))
+    by (added e h) = (λ x. absurd (omega arith), λ x. absurd (omega (arith, x .most)))
 
 -- all other numbers stay
 pub others-stay : (q : Refusal) → (numberBefore q ≡ SYNTAX → ⊥) → numberBefore q ≡ numberOf q
@@ -59,6 +62,7 @@ others-stay q h = by (became q)
     by : Became (numberBefore q) (numberOf q) → numberBefore q ≡ numberOf q
     by (split e x y) = absurd (h e)
     by (kept e x y) = e
+    by (added e x) = e
 
 -- ---- no number twice
 
@@ -69,8 +73,12 @@ first = R.LabelHeld ∷ R.LabelHeld ∷ R.TextTooLong ∷ R.LineTooLong ∷ R.Ba
 abbrev later : List Refusal
 later = R.UnknownBody ∷ R.Incomplete ∷ R.WrongCount ∷ R.NoVariable ∷ R.ShortBuffer ∷ R.DamagedPool ∷ R.MixedKind ∷ R.BadName ∷ R.NoOperator ∷ R.BadValue ∷ R.OpenList ∷ R.RestOfLine ∷ []
 
+-- from 22 on
+abbrev last : List Refusal
+last = R.LabelHeld ∷ R.LabelHeld ∷ R.BadRadius ∷ []
+
 abbrev named : ℕ → Refusal
-named n = getD (first ++ later) n R.LabelHeld
+named n = getD (first ++ later ++ last) n R.LabelHeld
 
 named-back : (q : Refusal) → named (numberOf q) ≡ q
 named-back R.LabelHeld = refl
@@ -93,6 +101,7 @@ named-back R.NoOperator = refl
 named-back R.BadValue = refl
 named-back R.OpenList = refl
 named-back R.RestOfLine = refl
+named-back R.BadRadius = refl
 
 pub same-number : (p q : Refusal) → numberOf p ≡ numberOf q → p ≡ q
 same-number p q e = sym (named-back p) ∙ ap named e ∙ named-back q

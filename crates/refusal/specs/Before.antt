@@ -1,5 +1,5 @@
--- The numbers as they were before document 02's K3, where "5 SYNTAX" was any broken form. Definitions only: with it a theorem can say what
--- became of 5.
+-- The numbers as they were before document 02's K3, where "5 SYNTAX" was any broken form; a refusal that came later has its own. Definitions
+-- only: with it a theorem can say what became of 5.
 use Prim.Native.Nat.{ℕ}
 use Rattle.refusal.specs.declared.Refusal.{Refusal}
 use Rattle.refusal.specs.declared.Refusal.the-variants as R
@@ -28,3 +28,4 @@ numberBefore R.NoOperator = SYNTAX
 numberBefore R.BadValue = SYNTAX
 numberBefore R.OpenList = SYNTAX
 numberBefore R.RestOfLine = SYNTAX
+numberBefore R.BadRadius = 24

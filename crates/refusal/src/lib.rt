@@ -24,6 +24,7 @@ pub enum Refusal {
     BadValue,
     OpenList,
     RestOfLine,
+    BadRadius,
 }
 
 // The number that the table gives a refusal.
@@ -51,5 +52,6 @@ pub fn number(refusal: Refusal) -> u32
         Refusal::BadValue => 19,
         Refusal::OpenList => 20,
         Refusal::RestOfLine => 21,
+        Refusal::BadRadius => 24,
     }
 }
