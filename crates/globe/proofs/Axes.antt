@@ -1,4 +1,4 @@
--- Radii found over three places: three values are given as they are, any other number and any string is refused. Assumes nothing.
+-- Radii found over three places: three values are the axes that are admitted, any other number and any string is refused. Assumes nothing.
 use mathlib.Core.Path.{_≡_}
 use mathlib.Core.Bool.{Bool}
 use mathlib.Core.List.{List}
@@ -8,16 +8,16 @@ use borrow.Author.Tests.{eq-eqb, ne-eqb}
 use lib.Ieee.{Float}
 use lib.ListN.{length}
 use Rattle.refusal.specs.declared.Refusal.the-variants.{UnknownBody, MixedKind, WrongCount}
-use Rattle.rotation.specs.declared.table.Radii.the-variants.{Given, Refused}
+use Rattle.rotation.specs.declared.table.Radii.the-variants.{Refused}
 use Rattle.variables.specs.declared.variable.Found.{Found}
 use Rattle.variables.specs.declared.variable.Found.the-variants as F
-use Rattle.globe.specs.Radii.{axes, measured}
+use Rattle.globe.specs.Radii.{axes, admitted, measured}
 use Rattle.wanted.specs.Steps.{Looks}
 use Rattle.wanted.proofs.Found.{counted, crowded, mixed, absent}
 use Rattle.wanted.proofs.Fronts.{over-all}
 
 module _ {there numeric : Bool} {xs before after : List Float} {r : Found} (l : Looks there numeric xs before r after) (size : length before ≡ 3) where
-  pub three : (n : ℕ) → r ≡ F.Count n → 3 ≤ n → Given (axes after) ≡ measured there numeric xs
+  pub three : (n : ℕ) → r ≡ F.Count n → 3 ≤ n → admitted (axes after) ≡ measured there numeric xs
   three n e k =
       let f = counted l n e in
       let t : length xs ≡ length before = omega (arith, f .count, f .roomy) in

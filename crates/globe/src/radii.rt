@@ -1,4 +1,4 @@
-// Radii from a pool: 15, 10, 16, 12, or three values.
+// Radii from a pool: 15, 10, 16, 12, 24, or three values.
 use layout::check::is_sound;
 use refusal::Refusal;
 use rotation::code;
@@ -14,7 +14,7 @@ ghost use Rattle.layout.specs.Memory.{decode};
 ghost use Rattle.layout.specs.Damage.{sound};
 ghost use Rattle.globe.specs.declared.source.Source.the-variants as Source;
 ghost use Rattle.wanted.specs.Steps.{Askable};
-ghost use Rattle.globe.specs.Radii.{radiiReply, radiiFrom, radiiOf};
+ghost use Rattle.globe.specs.Radii.{radiiReply, radiiFrom, radiiOf, admitted};
 
 // 15 first.
 pub fn from_pool(pool: &[u64], code: u32) -> Radii
@@ -50,7 +50,7 @@ fn of_body(pool: &[u64], code: u32) -> Radii
             if n < 3 {
                 return Radii::Refused(Refusal::WrongCount);
             }
-            Radii::Given(Axes {
+            admit(Axes {
                 a: xs[0],
                 b: xs[1],
                 c: xs[2],
@@ -60,4 +60,18 @@ fn of_body(pool: &[u64], code: u32) -> Radii
         Found::Mixed => Radii::Refused(Refusal::MixedKind),
         Found::Absent => Radii::Refused(Refusal::UnknownBody),
     }
+}
+
+// "must each be greater than 0 as doubles": else 24.
+fn admit(axes: Axes) -> Radii
+    ensures { λ r. ⌜ r ≡ admitted axes ⌝ }
+{
+    if axes.a > 0.0 {
+        if axes.b > 0.0 {
+            if axes.c > 0.0 {
+                return Radii::Given(axes);
+            }
+        }
+    }
+    Radii::Refused(Refusal::BadRadius)
 }

@@ -1,5 +1,5 @@
 -- `of_body` meets its contract: what was found over three places is three values, or a refusal. Assumes nothing.
-use mathlib.Core.Path.{refl}
+use mathlib.Core.Path.{refl, _∙_}
 use borrow.Author.Needs.{needs}
 use Rattle.globe.proofs.Axes.{three, not-three, over-three, of-strings, no-radii}
 use Rattle.globe.proofs.radii.of_body.Statement.{statement}
@@ -26,6 +26,9 @@ array-read-t17 c = search needs
 array-read-t20 : tie.Need-array-read-t20
 array-read-t20 c = search needs
 
+admit-requires : tie.Need-admit-requires
+admit-requires c κs = search needs
+
 enum-told : tie.Need-enum-told
 enum-told c = search needs
 
@@ -36,7 +39,9 @@ enum-told-3 : tie.Need-enum-told-3
 enum-told-3 c = search needs
 
 returns-2 : tie.Need-returns-2
-returns-2 c = three (c .before .before .before .before .before .find .ensures) refl _ (c .before .before .found .given .1) (c .if1 .left)
+returns-2 c =
+    let f = c .before .before .before in
+    c .admit .ensures ∙ three (f .before .before .before .find .ensures) refl _ (f .found .given .1) (c .before .if1 .left)
 
 returns-3 : tie.Need-returns-3
 returns-3 c = over-three (c .before .before .before .find .ensures) refl (c .enum-told .given .1)
@@ -58,6 +63,7 @@ of-body-spec =
     array-read-t14
     array-read-t17
     array-read-t20
+    admit-requires
     enum-told
     enum-told-2
     enum-told-3
