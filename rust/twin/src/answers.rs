@@ -1,4 +1,5 @@
-//! Orientation and radii from a pool: document 01, "Elements wanted", and 16 of K2 of document 02.
+//! Orientation and radii from a pool: document 01, "Elements wanted", and of document
+//! 02 the 16 of K2 and the 24 of K10.
 
 use std::io::Write;
 
@@ -102,6 +103,9 @@ pub fn radii(pool: &[u64], code: u32) -> Result<[f64; RADII_VALUES], Refusal> {
     }
     let mut radii = [0.0; RADII_VALUES];
     variable.copy_numbers(&held, &mut radii);
+    if !radii.iter().all(|radius| *radius > 0.0) {
+        return Err(Refusal::BadRadius);
+    }
     Ok(radii)
 }
 

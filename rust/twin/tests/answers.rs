@@ -4,7 +4,7 @@
 use twin::answers::{orientation, radii};
 use twin::builtin::builtin_orientation;
 use twin::layout::WORDS;
-use twin::pool::{load, make_empty};
+use twin::pool::{fetch, load, make_empty, remove};
 use twin::refusal::Refusal;
 use twin::rotation::{evaluate, Elements, Nutation, Orientation};
 
@@ -236,7 +236,6 @@ fn terms_over_several_statements() {
 fn radii_are_three() {
     for (list, expected) in [
         ("( 1 2 3 )", Ok([1.0, 2.0, 3.0])),
-        ("( 0 -0 -1 )", Ok([0.0, -0.0, -1.0])),
         ("( 1 2 )", Err(Refusal::WrongCount)),
         ("1", Err(Refusal::WrongCount)),
         ("( 1 2 3 4 )", Err(Refusal::WrongCount)),
@@ -250,4 +249,67 @@ fn radii_are_three() {
         assert_eq!(radii(&pool, 10), expected);
     }
     assert_eq!(radii(&pool_of(BODY), 399), Err(Refusal::UnknownBody));
+}
+
+#[test]
+fn radii_are_above_zero() {
+    for bad in [
+        "0",
+        "-0",
+        "-1",
+        "0.0E5",
+        "-1E-22",
+        "-9999999999999999999E22",
+    ] {
+        for list in [
+            format!("( {bad} 1 1 )"),
+            format!("( 1 {bad} 1 )"),
+            format!("( 1 1 {bad} )"),
+            format!("( {bad} {bad} {bad} )"),
+        ] {
+            let pool = pool_of(&format!("BODY10_RADII = {list}"));
+            assert_eq!(radii(&pool, 10), Err(Refusal::BadRadius), "{list}");
+        }
+    }
+    let pool = pool_of("BODY10_RADII = ( 1E-22 0.1 9999999999999999999E22 )");
+    assert_eq!(radii(&pool, 10), Ok([1e-22, 0.1, 1e41]));
+}
+
+#[test]
+fn a_bad_radius_is_told_last() {
+    for (code, list, expected) in [
+        (10, "( 0 0 )", Refusal::WrongCount),
+        (10, "( 0 0 0 0 )", Refusal::WrongCount),
+        (10, "( 0 0 0 )\nBODY10_RADII += 'a'", Refusal::MixedKind),
+        (11, "( 0 0 0 )", Refusal::UnknownBody),
+    ] {
+        let pool = pool_of(&format!("BODY{code}_RADII = {list}"));
+        assert_eq!(radii(&pool, code), Err(expected), "{list}");
+    }
+    let mut damaged = pool_of("BODY10_RADII = ( 0 0 0 )");
+    damaged[0] = 99;
+    assert_eq!(radii(&damaged, 10), Err(Refusal::DamagedPool));
+}
+
+#[test]
+fn only_radii_ask_for_more_than_zero() {
+    let zeros = "BODY399_POLE_RA = 0\nBODY399_POLE_DEC = -0\nBODY399_PM = ( -1 0 -0 )\nBODY399_RADII = ( 0 -0 -1 )\n";
+    let pool = pool_of(zeros);
+    assert_eq!(radii(&pool, 399), Err(Refusal::BadRadius));
+    assert!(orientation(&pool, 399, 0.0).is_ok());
+    let mut room = [7.0; 3];
+    assert_eq!(fetch(&pool, b"BODY399_RADII", &mut room), Ok(3));
+    assert_eq!(room.map(f64::to_bits), [0.0, -0.0, -1.0].map(f64::to_bits));
+}
+
+#[test]
+fn a_later_text_replaces_bad_radii() {
+    let mut pool = pool_of("BODY10_RADII = ( 1 0 )");
+    assert_eq!(radii(&pool, 10), Err(Refusal::WrongCount));
+    load(&mut pool, 2, b"\\begindata\nBODY10_RADII += -1").unwrap();
+    assert_eq!(radii(&pool, 10), Err(Refusal::BadRadius));
+    load(&mut pool, 3, b"\\begindata\nBODY10_RADII = ( 1 2 3 )").unwrap();
+    assert_eq!(radii(&pool, 10), Ok([1.0, 2.0, 3.0]));
+    remove(&mut pool, 3).unwrap();
+    assert_eq!(radii(&pool, 10), Err(Refusal::BadRadius));
 }

@@ -61,7 +61,7 @@ const WORDS_OF_A_BODY: [&str; 8] = [
 #[test]
 fn a_pool_answers_as_its_texts_do() {
     let mut random = Random(7);
-    let mut met = [0u32; 22];
+    let mut met = [0u32; 25];
     for _ in 0..HISTORIES {
         let mut memory = vec![random.below(u64::MAX); WORDS];
         make_empty(&mut memory).unwrap();
@@ -73,7 +73,7 @@ fn a_pool_answers_as_its_texts_do() {
     }
     println!("answers by number: {met:?}");
     for number in [
-        0, 1, 2, 6, 7, 8, 9, 10, 11, 12, 13, 14, 16, 17, 18, 19, 20, 21,
+        0, 1, 2, 6, 7, 8, 9, 10, 11, 12, 13, 14, 16, 17, 18, 19, 20, 21, 24,
     ] {
         assert!(met[number] > 0, "{number} is never met");
     }
@@ -324,7 +324,13 @@ impl Model {
         }
         let radii = self.body(code, "RADII").ok_or(Refusal::UnknownBody)?;
         let radii = numbers_of(&radii)?;
-        radii.try_into().map_err(|_| Refusal::WrongCount)
+        let radii: [f64; 3] = radii.try_into().map_err(|_| Refusal::WrongCount)?;
+        for radius in radii {
+            if radius.is_sign_negative() || radius == 0.0 {
+                return Err(Refusal::BadRadius);
+            }
+        }
+        Ok(radii)
     }
 }
 

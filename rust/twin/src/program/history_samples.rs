@@ -39,6 +39,7 @@ pub fn script() -> Vec<u8> {
     damages(&mut script);
     history_strings::add(&mut script);
     history_numbers::add(&mut script);
+    radii(&mut script);
     mixtures(&mut script);
     script.bytes
 }
@@ -581,6 +582,29 @@ fn unused_words(s: &mut Script) {
         }
     }
     read_all(s);
+}
+
+/// Radii that no globe has are loaded and fetched as any values are, and replaced by a later text.
+fn radii(s: &mut Script) {
+    const NAME: &str = "BODY499_RADII";
+    s.empty();
+    s.load(1, &data(&format!("{NAME} = ( 3397 3397 3375 )")));
+    for bad in ["0", "-0", "-1", "-3397.0D0", "0E22", "-0.0"] {
+        s.load(2, &data(&format!("{NAME} = ( 3397 {bad}\n{bad} )")));
+        s.fetch(3, NAME);
+        s.fetch(2, NAME);
+        s.load(3, &data(&format!("{NAME} += {bad}")));
+        s.fetch(4, NAME);
+        s.load(4, &data(&format!("{NAME} = ( 3397 3397 3375 )")));
+        s.fetch(3, NAME);
+        s.remove(4);
+        s.fetch(4, NAME);
+        s.remove(2);
+        s.fetch(4, NAME);
+        s.remove(3);
+        s.fetch(3, NAME);
+    }
+    s.totals();
 }
 
 /// Calls in no order, over few labels and names.
