@@ -60,6 +60,7 @@ static const struct {
                                       "single quotes; a list has one kind of them"},
     [GLOBE_OPEN_LIST] = {"OPEN LIST", "give the list a value and close it with a )"},
     [GLOBE_REST_OF_LINE] = {"REST OF LINE", "take this away, or begin a new line before it"},
+    [GLOBE_BAD_RADIUS] = {"BAD RADIUS", "look up the radii: each is greater than 0"},
 };
 
 static bool was_refused(uint32_t number, uint32_t line, uint32_t column) {

@@ -88,7 +88,8 @@ enum globe_number {
                                 second kind (of its first byte, or one past the line) */
     GLOBE_OPEN_LIST = 20,    /* the list is empty (of its bracket), or open at a delimiter line (1)
                                 or at the text's end (one past its last line) */
-    GLOBE_REST_OF_LINE = 21  /* more than blanks follows the statement (of the first such byte) */
+    GLOBE_REST_OF_LINE = 21, /* more than blanks follows the statement (of the first such byte) */
+    GLOBE_BAD_RADIUS = 24    /* a radius of the pool is not greater than 0 */
 };
 
 /* Done, or refused. */
@@ -118,7 +119,7 @@ typedef struct {
 
 /*
  * Three radii, in the order of the variable: in a kernel the two equatorial ones, then the polar
- * one, in km.
+ * one, in km. If the call is not refused, each is greater than 0 and finite.
  */
 typedef struct {
     uint32_t number, line, column;
@@ -214,7 +215,8 @@ globe_oriented globe_builtin_orientation(uint32_t body, double epoch);
 /*
  * The radii of a body, by the variable BODYn_RADII of the pool and by nothing else.
  * Refused: 15 DAMAGED POOL; 10 UNKNOWN BODY, for a code that has no meaning or a variable that is
- * not held; 16 MIXED KIND, if it has a string in it; 12 WRONG COUNT, if it has not three values.
+ * not held; 16 MIXED KIND, if it has a string in it; 12 WRONG COUNT, if it has not three values; 24
+ * BAD RADIUS, if one of them is not greater than 0: 0, -0 or negative.
  * The pool is only read.
  */
 globe_axes globe_radii(const uint64_t *pool, size_t words, uint32_t body);

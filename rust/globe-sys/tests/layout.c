@@ -73,5 +73,6 @@ int main(void) {
     NUMBER(GLOBE_BAD_VALUE);
     NUMBER(GLOBE_OPEN_LIST);
     NUMBER(GLOBE_REST_OF_LINE);
+    NUMBER(GLOBE_BAD_RADIUS);
     return 0;
 }

@@ -244,7 +244,7 @@ impl Pool {
     ///
     /// Refused, in this order: [`DamagedPool`](crate::Refusal::DamagedPool),
     /// [`UnknownBody`](crate::Refusal::UnknownBody), [`MixedKind`](crate::Refusal::MixedKind),
-    /// [`WrongCount`](crate::Refusal::WrongCount).
+    /// [`WrongCount`](crate::Refusal::WrongCount), [`BadRadius`](crate::Refusal::BadRadius).
     ///
     /// ```
     /// let mut pool = globe::Pool::new();

@@ -55,11 +55,13 @@ pub enum Refusal {
     OpenList,
     /// 21: something follows the statement on its line.
     RestOfLine,
+    /// 24: a radius from a pool is not greater than 0.
+    BadRadius,
 }
 
 impl Refusal {
     /// All refusals, in the order of their numbers. None has the number 5.
-    pub const ALL: [Refusal; 20] = [
+    pub const ALL: [Refusal; 21] = [
         Refusal::LabelHeld,
         Refusal::TextTooLong,
         Refusal::LineTooLong,
@@ -80,6 +82,7 @@ impl Refusal {
         Refusal::BadValue,
         Refusal::OpenList,
         Refusal::RestOfLine,
+        Refusal::BadRadius,
     ];
 
     /// The number that the library gives for it.
@@ -105,6 +108,7 @@ impl Refusal {
             Refusal::BadValue => sys::GLOBE_BAD_VALUE,
             Refusal::OpenList => sys::GLOBE_OPEN_LIST,
             Refusal::RestOfLine => sys::GLOBE_REST_OF_LINE,
+            Refusal::BadRadius => sys::GLOBE_BAD_RADIUS,
         }
     }
 
@@ -131,6 +135,7 @@ impl Refusal {
             Refusal::BadValue => "BAD VALUE",
             Refusal::OpenList => "OPEN LIST",
             Refusal::RestOfLine => "REST OF LINE",
+            Refusal::BadRadius => "BAD RADIUS",
         }
     }
 
@@ -230,6 +235,10 @@ impl Refusal {
             Refusal::RestOfLine => {
                 "the statement is complete before this; begin a new line for the next statement, \
                  put several values between ( and ), or put a comment behind \\begintext"
+            }
+            Refusal::BadRadius => {
+                "a radius of the body is 0 or negative; look it up and mend the text, or load a \
+                 later one that gives BODYn_RADII anew with ="
             }
         }
     }

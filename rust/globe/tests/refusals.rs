@@ -166,6 +166,12 @@ fn of_orientations_and_radii() {
     pool.load(4, "\\begindata\nBODY1_RADII = 'a'\nBODY1_POLE_RA += 'a'")
         .unwrap();
     assert_eq!(pool.radii(1), Err(alone(Refusal::MixedKind)));
+    pool.load(5, "\\begindata\nBODY1_RADII = ( 1 1 -0 )")
+        .unwrap();
+    assert_eq!(pool.radii(1), Err(alone(Refusal::BadRadius)));
+    pool.load(6, "\\begindata\nBODY1_RADII = ( 1 1 2 )")
+        .unwrap();
+    assert_eq!(pool.radii(1), Ok([1.0, 1.0, 2.0]));
     assert_eq!(orientation(&pool, 0.0), alone(Refusal::MixedKind));
     let negative = builtin_orientation(-31_i32 as u32, 0.0);
     assert_eq!(negative, Err(alone(Refusal::UnknownBody)));
@@ -194,7 +200,7 @@ fn of_every_call_on_a_damaged_pool() {
 
 #[test]
 fn numbers_and_words() {
-    let numbers = (1..=21).filter(|number| *number != 5);
+    let numbers = (1..=24).filter(|number| ![5, 22, 23].contains(number));
     assert!(Refusal::ALL.map(Refusal::number).into_iter().eq(numbers));
     for refusal in Refusal::ALL {
         let shown = alone(refusal).to_string();
