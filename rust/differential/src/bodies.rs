@@ -1,6 +1,7 @@
 //! Body codes, and texts about bodies that are mostly complete.
 
 use crate::decimals::inside;
+use crate::radii;
 use crate::random::Random;
 use crate::strings::{quoted, string};
 
@@ -59,6 +60,11 @@ pub fn held_code(random: &mut Random) -> u32 {
     } else {
         random.one(&HELD)
     }
+}
+
+/// A code that texts speak of and that is legal.
+pub fn legal_code(random: &mut Random) -> u32 {
+    random.one(&HELD)
 }
 
 /// The name of some variable of a body.
@@ -129,10 +135,23 @@ fn add(text: &mut String, random: &mut Random, code: u32, word: &str, count: usi
     let operator = if random.once_in(50) { "+=" } else { "=" };
     text.push_str(&format!("BODY{code}_{word} {operator} (\n"));
     for _ in 0..count {
-        text.push_str(&coefficient(random));
+        let value = match word {
+            "RADII" => radius(random),
+            _ => coefficient(random),
+        };
+        text.push_str(&value);
         text.push('\n');
     }
     text.push_str(")\n");
+}
+
+/// Mostly a length, now and then one that no globe has.
+fn radius(random: &mut Random) -> String {
+    match random.below(24) {
+        0 => radii::bad(random),
+        1 => coefficient(random),
+        _ => radii::good(random),
+    }
 }
 
 /// A value as reports print them, or any of the class.

@@ -14,6 +14,7 @@ mod library;
 pub mod long_numbers;
 pub mod orientations;
 mod pair;
+pub mod radii;
 mod random;
 pub mod strings;
 mod tally;

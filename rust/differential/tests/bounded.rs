@@ -5,12 +5,13 @@ use std::io::{self, Write};
 use std::path::Path;
 
 use differential::{
-    damage, decimals, histories, kernels, long_numbers, orientations, strings, texts, Random, Tally,
+    damage, decimals, histories, kernels, long_numbers, orientations, radii, strings, texts,
+    Random, Tally,
 };
 
 const SEED: u64 = 2000;
 
-/// The least that each of the twenty refusals is met where it belongs, and any refusal elsewhere.
+/// The least that each of the refusals is met where it belongs, and any refusal elsewhere.
 const LEAST_AT_HOME: u64 = 500;
 const LEAST: u64 = 100;
 
@@ -33,7 +34,7 @@ fn generated_texts() {
 fn call_histories() {
     let tally = histories::run(&mut Random::new(SEED), 20_000);
     report("calls of 20000 histories", &tally);
-    tally.expect((0..=2).chain(7..=14).chain([16]).chain(PLACED), LEAST);
+    tally.expect((0..=2).chain(7..=14).chain([16, 24]).chain(PLACED), LEAST);
     tally.expect([8, 13, 14, 16], LEAST_AT_HOME);
 }
 
@@ -72,6 +73,13 @@ fn strings_in_quotes() {
     let tally = strings::run(&mut Random::new(SEED), 50_000);
     report("strings in quotes", &tally);
     tally.expect([0, 13, 14, 16, 19, 21], LEAST_AT_HOME);
+}
+
+#[test]
+fn radii_that_are_replaced() {
+    let tally = radii::run(&mut Random::new(SEED), 20_000);
+    report("radii that are replaced", &tally);
+    tally.expect([0, 12, 24], LEAST_AT_HOME);
 }
 
 #[test]
