@@ -1,8 +1,8 @@
--- Radii are given exactly when the source has three values, and are these: the call's tests, in their order, are the record's fields.
--- Assumes nothing.
+-- Radii are given exactly when the source has three values, those of a pool each above 0, and are these: the call's tests, in their order, are
+-- the record's fields. Assumes nothing.
 use Prim.Native.Nat.{ℕ}
 use native.Mathlib.Omega.{arith}
-use mathlib.Core.Path.{_≡_, refl}
+use mathlib.Core.Path.{_≡_, refl, subst}
 use mathlib.Core.Bool.{Bool, true, false}
 use mathlib.Core.List.{List, [], _∷_}
 use mathlib.Core.Logic.{_↔_}
@@ -26,7 +26,7 @@ use Rattle.layout.specs.State.{Pool}
 use Rattle.layout.specs.Memory.{decode}
 use Rattle.layout.specs.Damage.{sound}
 use Rattle.wanted.specs.Elements.{there, numeric, list}
-use Rattle.globe.specs.Radii.{axes, bySystem, radiiFrom, radiiReply}
+use Rattle.globe.specs.Radii.{axes, allPositive, admitted, bySystem, radiiFrom, radiiReply}
 use Rattle.wanted.specs.declared.name.Wanted.the-variants as W
 use Rattle.globe.specs.declared.source.Source.the-variants as S
 use Rattle.promises.specs.Demands.{HasRadii}
@@ -42,19 +42,28 @@ three-axes (p ∷ q ∷ []) x l e = absurd (omega arith)
 three-axes (p ∷ q ∷ r ∷ []) x l e = rw (← e) refl
 three-axes (p ∷ q ∷ r ∷ t ∷ xs) x l e = absurd (omega arith)
 
+-- axes that are admitted are above 0
+by-sign : (y x : Axes) → admitted y ≡ Given x → (y ≡ x) × (allPositive x ≡ true)
+by-sign y x e = by (allPositive y) refl e
+  where
+    by : (b : Bool) → allPositive y ≡ b → (if b then Given y else Refused Q.BadRadius) ≡ Given x → (y ≡ x) × (allPositive x ≡ true)
+    by true u h = let z : y ≡ x = cc in (z, subst (λ (v : Axes). allPositive v ≡ true) z u)
+    by false u h = never h
+
 -- ---- from a pool
 
 module _ (s : Pool) (n : ℕ) (x : Axes) where
   by-count : (k : ℕ) (a b : Bool) → numeric s n W.Radii ≡ a → eqb (length (list s n W.Radii)) 3 ≡ b → systemOf n ≡ Of k → there s n W.Radii ≡ true
-      → (if a then (if b then Given (axes (list s n W.Radii)) else Refused Q.WrongCount) else Refused Q.MixedKind) ≡ Given x → HasRadii s n x
+      → (if a then (if b then admitted (axes (list s n W.Radii)) else Refused Q.WrongCount) else Refused Q.MixedKind) ≡ Given x → HasRadii s n x
   by-count k true true u w l t e =
-      let y : axes (list s n W.Radii) ≡ x = cc in
+      let y = by-sign (axes (list s n W.Radii)) x e in
       record {
         system = k;
         legal = l;
         some = t;
         kinds = u;
-        three = three-axes (list s n W.Radii) x (eqb-true (length (list s n W.Radii)) 3 w) y;
+        three = three-axes (list s n W.Radii) x (eqb-true (length (list s n W.Radii)) 3 w) (y .0);
+        above = y .1;
       }
   by-count k true false u w l t e = never e
   by-count k false b u w l t e = never e
@@ -62,7 +71,7 @@ module _ (s : Pool) (n : ℕ) (x : Axes) where
   by-presence : (k : ℕ) (b : Bool) → there s n W.Radii ≡ b → systemOf n ≡ Of k
       → (if b
       then (if numeric s n W.Radii
-      then (if eqb (length (list s n W.Radii)) 3 then Given (axes (list s n W.Radii)) else Refused Q.WrongCount)
+      then (if eqb (length (list s n W.Radii)) 3 then admitted (axes (list s n W.Radii)) else Refused Q.WrongCount)
       else Refused Q.MixedKind)
       else Refused Q.UnknownBody)
       ≡ Given x
@@ -80,7 +89,7 @@ module _ (s : Pool) (n : ℕ) (x : Axes) where
 
   given-radii : HasRadii s n x → radiiFrom s n ≡ Given x
   unfolding radiiFrom
-  given-radii h = rw (h .legal, h .some, h .kinds, h .three) refl
+  given-radii h = rw (h .legal, h .some, h .kinds, h .three, h .above) refl
 
 module _ (m : List ℕ) (n : ℕ) (x : Axes) where
   by-damage : (b : Bool) → sound m ≡ b → (if b then radiiFrom (decode m) n else Refused Q.DamagedPool) ≡ Given x

@@ -97,6 +97,7 @@ radii n m e =
       noBody = λ k s t. simp (e, s, t);
       mixedKind = λ k s t x. simp (e, s, t, x);
       wrongCount = λ k s t x c. simp (e, s, t, x, c);
+      badRadius = λ k s t x c p. simp (e, s, t, x, c, p);
     }
 
 table-rows : (n : ℕ) (epoch : Float) (m : List ℕ) → inReach epoch ≡ true → rowOf n ≡ NoRow → Refuses library (C.orientation S.Builtin n epoch) m Q.UnknownBody

@@ -89,7 +89,7 @@ module _ (name : List ℕ) where
       by true = each-small (s .values) (f .0)
       by false = tt
 
-  doubles-under : (s : Pool) → Each SmallStatement (program s) → Each (Under 200) (doubles name s)
+  pub doubles-under : (s : Pool) → Each SmallStatement (program s) → Each (Under 200) (doubles name s)
   unfolding variable
   doubles-under s f =
       among-under (variable name s) (given-small (since name (program s)) (each-since (program s) f))

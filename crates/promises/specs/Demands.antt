@@ -5,6 +5,7 @@ use mathlib.Core.Bool.{Bool, true, false, _||_}
 use mathlib.Core.List.{List, [], _∷_, _++_}
 use mathlib.Core.Logic.{_↔_}
 use lib.Ieee.{Float}
+use lib.Ieee.Scale.{finite}
 use lib.ListN.{length, drop}
 use Rattle.plain.specs.Bytes.{within}
 use Rattle.refusal.specs.Numbers.{numberOf}
@@ -48,7 +49,7 @@ use Rattle.pool.specs.declared.reply.Reply.the-variants.{Refused}
 use Rattle.pool.specs.declared.reply.Fetched.{Fetched}
 use Rattle.wanted.specs.Elements.{there, numeric, noneThere, complete, allNumeric, wellCounted, elements, angles, list}
 use Rattle.globe.specs.Orientation.{Orients}
-use Rattle.globe.specs.Radii.{Measures}
+use Rattle.globe.specs.Radii.{positive, allPositive, Measures}
 use Rattle.globe.specs.declared.source.Source.{Source}
 use Rattle.globe.specs.declared.source.Source.the-variants as S
 use Rattle.wanted.specs.declared.name.Wanted.the-variants as W
@@ -188,13 +189,14 @@ pub record HasRow (n : ℕ) (epoch : Float) (o : Orientation) : Type 0 where
   pub listed : rowOf n ≡ Held row
   pub evaluation : o ≡ rowEvaluated n row epoch
 
--- "Radii are the source's three values": of the texts of a pool
+-- "Radii are the source's three values", and from a pool "must each be greater than 0 as doubles": of the texts of a pool
 pub record HasRadii (s : Pool) (n : ℕ) (x : Axes) : Type 0 where
   pub system : ℕ
   pub legal : systemOf n ≡ Of system
   pub some : there s n W.Radii ≡ true
   pub kinds : numeric s n W.Radii ≡ true
   pub three : list s n W.Radii ≡ x .a ∷ x .b ∷ x .c ∷ []
+  pub above : allPositive x ≡ true
 
 -- "exactly when", both ways, of any build
 pub record Demand2 (b : Build) : Type 0 where
@@ -228,6 +230,16 @@ pub record NoOverflow (b : Build) : Type 0 where
       (m : List ℕ) (n : ℕ) (epoch : Float) (o : Orientation) (row : Elements)
       → b .answer (orientation S.Builtin n epoch) m ≡ oriented (O.Given o) → rowOf n ≡ Held row
       → NeverOverflows row epoch (neptunes n neptuneAngle) (neptunes n neptuneRA) (neptunes n neptuneDEC) (neptunes n neptunePM)
+
+-- "A zero in a text made a flat globe": every radius that is given, by either source, is greater than 0, and no infinity
+
+pub record Above0 (radius : Float) : Type 0 where
+  pub above : positive radius ≡ true
+  pub below : finite radius ≡ true
+
+abbrev pub RadiiAbove0 : Build → Type 0
+RadiiAbove0 b =
+    (source : Source) (m : List ℕ) (n : ℕ) (x : Axes) → b .answer (radii source n) m ≡ measured (A.Given x) → Above0 (x .a) × Above0 (x .b) × Above0 (x .c)
 
 -- "the two are never blended, since a pole of one report with a meridian of another is an orientation nobody published."
 

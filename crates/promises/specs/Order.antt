@@ -1,6 +1,7 @@
 -- "Order: 15 first; then by call 1, 2, the first faulty line (in it 3, then 4, then whichever of 5 and 6 starts at the earlier byte), 7; 8;
 -- 13, 14; 9, 10, 11, 12. Fifteen is not checked where the built-in source is named." "16 MIXED KIND .. stands just before 12"; "both fetches
--- ask 13, 16, 14 in turn". Each refusal is given where its condition holds and none does that is asked before it. Definitions only.
+-- ask 13, 16, 14 in turn"; "24 BAD RADIUS, for radii only, stands after 12". Each refusal is given where its condition holds and none does that
+-- is asked before it. Definitions only.
 use Prim.Native.Nat.{ℕ, _≤_, _<_}
 use mathlib.Core.Path.{_≡_}
 use mathlib.Core.Bool.{Bool, true, false}
@@ -30,6 +31,7 @@ use Rattle.variables.specs.Spelled.{stringOf}
 use Rattle.pool.specs.Load.{held, textOf, with}
 use Rattle.wanted.specs.Elements.{there, numeric, noneThere, complete, allNumeric, wellCounted, list}
 use Rattle.wanted.specs.declared.name.Wanted.the-variants as W
+use Rattle.globe.specs.Radii.{axes, allPositive}
 use Rattle.globe.specs.declared.source.Source.the-variants as S
 use Rattle.promises.specs.Calls as C
 use Rattle.promises.specs.Calls.{Call, Build, number, line}
@@ -106,6 +108,9 @@ pub record RadiiOrder (b : Build) (n : ℕ) (m : List ℕ) : Type 0 where
   pub wrongCount :
       (k : ℕ) → systemOf n ≡ Of k → there (decode m) n W.Radii ≡ true → numeric (decode m) n W.Radii ≡ true → eqb (length (list (decode m) n W.Radii)) 3 ≡ false
       → Refuses b (C.radii S.Pool n) m Q.WrongCount
+  pub badRadius :
+      (k : ℕ) → systemOf n ≡ Of k → there (decode m) n W.Radii ≡ true → numeric (decode m) n W.Radii ≡ true → eqb (length (list (decode m) n W.Radii)) 3 ≡ true
+      → allPositive (axes (list (decode m) n W.Radii)) ≡ false → Refuses b (C.radii S.Pool n) m Q.BadRadius
 
 -- ---- the claim
 
