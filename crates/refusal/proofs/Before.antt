@@ -44,6 +44,7 @@ became R.NoOperator = split refl (omega arith) (omega arith)
 became R.BadValue = split refl (omega arith) (omega arith)
 became R.OpenList = split refl (omega arith) (omega arith)
 became R.RestOfLine = split refl (omega arith) (omega arith)
+became R.BadDegree = added refl (omega arith)
 became R.BadRadius = added refl (omega arith)
 
 -- the five numbers stand where 5 stood, and nowhere else
@@ -75,7 +76,7 @@ later = R.UnknownBody ∷ R.Incomplete ∷ R.WrongCount ∷ R.NoVariable ∷ R.S
 
 -- from 22 on
 abbrev last : List Refusal
-last = R.LabelHeld ∷ R.LabelHeld ∷ R.BadRadius ∷ []
+last = R.LabelHeld ∷ R.BadDegree ∷ R.BadRadius ∷ []
 
 abbrev named : ℕ → Refusal
 named n = getD (first ++ later ++ last) n R.LabelHeld
@@ -101,6 +102,7 @@ named-back R.NoOperator = refl
 named-back R.BadValue = refl
 named-back R.OpenList = refl
 named-back R.RestOfLine = refl
+named-back R.BadDegree = refl
 named-back R.BadRadius = refl
 
 pub same-number : (p q : Refusal) → numberOf p ≡ numberOf q → p ≡ q

@@ -28,4 +28,5 @@ numberBefore R.NoOperator = SYNTAX
 numberBefore R.BadValue = SYNTAX
 numberBefore R.OpenList = SYNTAX
 numberBefore R.RestOfLine = SYNTAX
+numberBefore R.BadDegree = 23
 numberBefore R.BadRadius = 24

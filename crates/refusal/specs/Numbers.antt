@@ -1,6 +1,6 @@
 -- "Success is number 0"; the table of "Refusal numbers", a line for each refusal, with document 02's "16 MIXED KIND" and "5 becomes 17 BAD
--- NAME, 18 NO OPERATOR, 19 BAD VALUE .., 20 OPEN LIST .., 21 REST OF LINE", so that 5 is not given any more, and "24 BAD RADIUS".
--- Definitions only.
+-- NAME, 18 NO OPERATOR, 19 BAD VALUE .., 20 OPEN LIST .., 21 REST OF LINE", so that 5 is not given any more, "23 BAD DEGREE" and
+-- "24 BAD RADIUS". Definitions only.
 use Prim.Native.Nat.{ℕ}
 use Rattle.refusal.specs.declared.Refusal.{Refusal}
 use Rattle.refusal.specs.declared.Refusal.the-variants as R
@@ -29,4 +29,5 @@ numberOf R.NoOperator = 18
 numberOf R.BadValue = 19
 numberOf R.OpenList = 20
 numberOf R.RestOfLine = 21
+numberOf R.BadDegree = 23
 numberOf R.BadRadius = 24

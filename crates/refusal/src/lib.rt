@@ -24,6 +24,7 @@ pub enum Refusal {
     BadValue,
     OpenList,
     RestOfLine,
+    BadDegree,
     BadRadius,
 }
 
@@ -52,6 +53,7 @@ pub fn number(refusal: Refusal) -> u32
         Refusal::BadValue => 19,
         Refusal::OpenList => 20,
         Refusal::RestOfLine => 21,
+        Refusal::BadDegree => 23,
         Refusal::BadRadius => 24,
     }
 }
