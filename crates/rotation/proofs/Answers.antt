@@ -11,6 +11,7 @@ use Rattle.plain.specs.Choice.{if_then_else_}
 use Rattle.plain.specs.Doubles.{printed}
 use Rattle.plain.specs.Sizes.{Below}
 use Rattle.rotation.specs.Epochs.{inReach}
+use Rattle.rotation.specs.Elements.{LINEAR}
 use Rattle.rotation.specs.Table.{straight, row, rowOf, neptuneAngle, neptuneRA, neptuneDEC, neptunePM}
 use Rattle.rotation.specs.Builtin.{neptunes, rowEvaluated, builtinOrientation}
 use Rattle.rotation.specs.Range.{InRange}
@@ -29,7 +30,7 @@ pub builtin-in-range : (n : ℕ) (epoch : Float) (o : Orientation) → builtinOr
 unfolding rowEvaluated
 builtin-in-range n epoch o h =
     of-given InRange n epoch o
-    (λ r e k. evaluated-in-range e epoch (neptunes n neptuneAngle) (neptunes n neptuneRA) (neptunes n neptuneDEC) (neptunes n neptunePM)) h
+    (λ r e k. evaluated-in-range e epoch LINEAR (neptunes n neptuneAngle) (neptunes n neptuneRA) (neptunes n neptuneDEC) (neptunes n neptunePM)) h
 
 -- ---- the rows
 record SmallElements (e : Elements) : Type 0 where
@@ -91,7 +92,7 @@ two-small x y b c = record { each = each }
     each zero h = b
     each (suc i) h = one-small y c .each i (omega arith)
 
-neptune-input : (e : Elements) → SmallElements e → SmallInput e neptuneAngle neptuneRA neptuneDEC neptunePM
+neptune-input : (e : Elements) → SmallElements e → SmallInput e LINEAR neptuneAngle neptuneRA neptuneDEC neptunePM
 unfolding printed round neg
 neptune-input e s =
     record {
@@ -99,21 +100,21 @@ neptune-input e s =
       poleDEC = s .dec;
       meridian = s .pm;
       few = lit≤ tt;
-      enough = record { forRA = lit≤ tt; forDEC = lit≤ tt; forPM = lit≤ tt };
+      enough = record { low = lit≤ tt; forRA = lit≤ tt; forDEC = lit≤ tt; forPM = lit≤ tt };
       system = two-small _ _ (lit< tt) (lit< tt);
       forRA = one-small _ (lit< tt);
       forDEC = one-small _ (lit< tt);
       forPM = one-small _ (lit< tt);
     }
 
-straight-input : (e : Elements) → SmallElements e → SmallInput e [] [] [] []
+straight-input : (e : Elements) → SmallElements e → SmallInput e LINEAR [] [] [] []
 straight-input e s =
     record {
       poleRA = s .ra;
       poleDEC = s .dec;
       meridian = s .pm;
       few = lit≤ tt;
-      enough = record { forRA = lit≤ tt; forDEC = lit≤ tt; forPM = lit≤ tt };
+      enough = record { low = lit≤ tt; forRA = lit≤ tt; forDEC = lit≤ tt; forPM = lit≤ tt };
       system = none-small;
       forRA = none-small;
       forDEC = none-small;
@@ -121,15 +122,16 @@ straight-input e s =
     }
 
 pub row-never-overflows : (n : ℕ) (epoch : Float) (e : Elements) → inReach epoch ≡ true → rowOf n ≡ Held e
-    → NeverOverflows e epoch (neptunes n neptuneAngle) (neptunes n neptuneRA) (neptunes n neptuneDEC) (neptunes n neptunePM)
+    → NeverOverflows e epoch LINEAR (neptunes n neptuneAngle) (neptunes n neptuneRA) (neptunes n neptuneDEC) (neptunes n neptunePM)
 row-never-overflows n epoch e r k = by (eqb n 899)
   where
     s : SmallElements e
     s = table-small n .held e k
 
-    by : (b : Bool) → NeverOverflows e epoch (if b then neptuneAngle else []) (if b then neptuneRA else []) (if b then neptuneDEC else []) (if b then neptunePM else [])
-    by true = never-overflows e epoch neptuneAngle neptuneRA neptuneDEC neptunePM r (neptune-input e s)
-    by false = never-overflows e epoch [] [] [] [] r (straight-input e s)
+    by : (b : Bool)
+        → NeverOverflows e epoch LINEAR (if b then neptuneAngle else []) (if b then neptuneRA else []) (if b then neptuneDEC else []) (if b then neptunePM else [])
+    by true = never-overflows e epoch LINEAR neptuneAngle neptuneRA neptuneDEC neptunePM r (neptune-input e s)
+    by false = never-overflows e epoch LINEAR [] [] [] [] r (straight-input e s)
 
 pub builtin-finite : (n : ℕ) (epoch : Float) (o : Orientation) → builtinOrientation n epoch ≡ O.Given o → Finite o
 unfolding rowEvaluated

@@ -1,4 +1,5 @@
--- No evaluation overflows: a sum starts where its polynomial is, and each of at most 32 terms adds 2 to the exponent. Assumes nothing.
+-- No evaluation overflows: a step inward of an angle adds 43 to the exponent; a sum starts where its polynomial is, and each of at most 32
+-- terms adds 2. Assumes nothing.
 use mathlib.Core.Path.{_≡_}
 use mathlib.Core.Bool.{true}
 use mathlib.Core.List.{List}
@@ -14,14 +15,15 @@ use Rattle.angle.specs.Sine.{sineCosine}
 use Rattle.angle.specs.declared.sine.SineCosine.{SineCosine}
 use Rattle.angle.proofs.Sizes.{sine-cosine-under, sine-finite}
 use Rattle.rotation.specs.Epochs.{days, centuries, inReach}
-use Rattle.rotation.specs.Elements.{sine, cosine, angle, nutated, nutatedAll}
+use Rattle.rotation.specs.Elements.{sine, cosine, CUBIC, groups, nested, angle, nutated, nutatedAll}
 use Rattle.rotation.specs.Evaluation.{starts, evaluated}
 use Rattle.rotation.specs.Finite.{SmallPolynomial, SmallValues, SmallInput}
-use Rattle.rotation.specs.Overflow.{FiniteStep, FinitePolynomial, FiniteAngle, FiniteTerms, FiniteSums, NeverOverflows}
+use Rattle.rotation.specs.Overflow.{FiniteStep, FinitePolynomial, FiniteNest, FiniteAngle, FiniteTerms, FiniteSums, NeverOverflows}
 use Rattle.rotation.specs.declared.epoch.Days.{Days}
 use Rattle.rotation.specs.declared.epoch.Centuries.{Centuries}
 use Rattle.rotation.specs.declared.elements.Polynomial.{Polynomial}
 use Rattle.rotation.specs.declared.elements.Elements.{Elements}
+use Rattle.rotation.proofs.Nested.{group-within}
 use Rattle.rotation.proofs.Reach.{days-under, centuries-under}
 use Rattle.rotation.proofs.Finite.{oriented-finite, matrix-finite}
 
@@ -53,20 +55,43 @@ module _ (p : Polynomial) (x : Float) (P : SmallPolynomial p) (X : Under 40 x) w
         outer = step-finite {k = 243} (lit≤ tt) (lit≤ tt) (small (P .c0)) X inner-under;
       }
 
+-- ---- an angle
+module _ (t : Centuries) (xs : List Float) (T : Under 40 (t .0)) (X : SmallValues xs) where
+  -- a step inward adds 43 to the exponent at most
+  nested-under : (at more : ℕ) → more ≤ CUBIC → at + more < length xs → Under (200 + 43 * more) (nested t xs at more)
+  unfolding nested
+  nested-under at zero low h = small (X .each at (omega arith))
+  nested-under at (suc more) low h =
+      let rest = nested-under (at + 1) more (omega arith) (omega arith) in
+      weaken-under (200 + 43 * suc more) (omega arith)
+      (sum-under {k = 200 + 43 * more} (omega arith) (omega arith) (small (X .each at (omega arith))) T rest)
+
+  nest-finite : (at more : ℕ) → more ≤ CUBIC → at + more < length xs → FiniteNest t xs at more
+  unfolding FiniteNest
+  nest-finite at zero low h = tt
+  nest-finite at (suc more) low h =
+      let rest = nested-under (at + 1) more (omega arith) (omega arith) in (
+        step-finite {k = 200 + 43 * more} (omega arith) (omega arith) (small (X .each at (omega arith))) T rest,
+        nest-finite (at + 1) more (omega arith) (omega arith),
+      )
+
 -- ---- the terms
-module _ (t : Centuries) (angles : List Float) where
-  angle-finite : Under 40 (t .0) → SmallValues angles → (i : ℕ) → 2 * i + 1 < length angles → FiniteAngle t angles i
-  angle-finite T A i l =
-      let step = step-finite {k = 200} (lit≤ tt) (lit≤ tt) (small (A .each (2 * i) (omega arith))) T (small (A .each (2 * i + 1) l)) in
-      record { degrees = step; pair = sine-finite _ (step .sum) }
+module _ (t : Centuries) (degree : ℕ) (angles : List Float) where
+  angle-finite : degree ≤ CUBIC → Under 40 (t .0) → SmallValues angles → (i : ℕ) → i < groups degree (length angles) → FiniteAngle t degree angles i
+  angle-finite low T A i l =
+      let h = group-within degree i (length angles) l in
+      record {
+        degrees = nest-finite t angles T A ((degree + 1) * i) degree low h;
+        pair = sine-finite _ (finite-under _ (nested-under t angles T A ((degree + 1) * i) degree low h));
+      }
 
   module _ (part : SineCosine → Float) (bounded : (x : Float) → Under 233 (part (sineCosine x)))
       (cs : List Float) (start : Float) (few : length cs ≤ 32) (C : SmallValues cs) (S : Under 434 start) where
-    term-under : (i : ℕ) → i < length cs → Under 434 (getD cs i nan ⊗ part (sineCosine (angle t angles i)))
+    term-under : (i : ℕ) → i < length cs → Under 434 (getD cs i nan ⊗ part (sineCosine (angle t degree angles i)))
     term-under i h = ⊗-under {j = 200} {k = 233} (lit≤ tt) (small (C .each i h)) (bounded _)
 
     -- a term adds 2 to the exponent at most
-    nutated-under : (i : ℕ) → i ≤ length cs → Under (434 + 2 * i) (nutated part t angles cs start i)
+    nutated-under : (i : ℕ) → i ≤ length cs → Under (434 + 2 * i) (nutated part t degree angles cs start i)
     unfolding nutated
     nutated-under zero h = S
     nutated-under (suc i) h =
@@ -74,12 +99,12 @@ module _ (t : Centuries) (angles : List Float) where
         let y = weaken-under (434 + 2 * i) (omega arith) (term-under i (omega arith)) in
         weaken-under (434 + 2 * suc i) (omega arith) (⊕-under {j = 434 + 2 * i} (omega arith) x y)
 
-    terms-finite : FiniteTerms part t angles cs start
+    terms-finite : FiniteTerms part t degree angles cs start
     terms-finite = record { products = λ i h. finite-under _ (term-under i h); sums = λ i h. finite-under _ (nutated-under i h) }
 
 -- ---- every step
-module _ (e : Elements) (d : Days) (t : Centuries) (angles ra dec pm : List Float) where
-  sums-finite : SmallInput e angles ra dec pm → Under 40 (d .0) → Under 40 (t .0) → FiniteSums e d t angles ra dec pm
+module _ (e : Elements) (d : Days) (t : Centuries) (degree : ℕ) (angles ra dec pm : List Float) where
+  sums-finite : SmallInput e degree angles ra dec pm → Under 40 (d .0) → Under 40 (t .0) → FiniteSums e d t degree angles ra dec pm
   sums-finite s D T =
       let sines : (x : Float) → Under 233 (sineCosine x .0) = λ x. sine-cosine-under x .sine in
       let cosines : (x : Float) → Under 233 (sineCosine x .1) = λ x. sine-cosine-under x .cosine in
@@ -91,18 +116,18 @@ module _ (e : Elements) (d : Days) (t : Centuries) (angles ra dec pm : List Floa
         startRA = polynomial-finite (e .ra) _ (s .poleRA) T;
         startDEC = polynomial-finite (e .dec) _ (s .poleDEC) T;
         startW = polynomial-finite (e .pm) _ (s .meridian) D;
-        eachAngle = angle-finite t angles T (s .system);
-        termsRA = terms-finite t angles sine sines ra _ (omega arith) (s .forRA) (polynomial-under (e .ra) _ (s .poleRA) T);
-        termsDEC = terms-finite t angles cosine cosines dec _ (omega arith) (s .forDEC) (polynomial-under (e .dec) _ (s .poleDEC) T);
-        termsW = terms-finite t angles sine sines pm _ (omega arith) (s .forPM) (polynomial-under (e .pm) _ (s .meridian) D);
+        eachAngle = angle-finite t degree angles (l .low) T (s .system);
+        termsRA = terms-finite t degree angles sine sines ra _ (omega arith) (s .forRA) (polynomial-under (e .ra) _ (s .poleRA) T);
+        termsDEC = terms-finite t degree angles cosine cosines dec _ (omega arith) (s .forDEC) (polynomial-under (e .dec) _ (s .poleDEC) T);
+        termsW = terms-finite t degree angles sine sines pm _ (omega arith) (s .forPM) (polynomial-under (e .pm) _ (s .meridian) D);
       }
 
-pub never-overflows : (e : Elements) (epoch : Float) (angles ra dec pm : List Float)
-    → inReach epoch ≡ true → SmallInput e angles ra dec pm → NeverOverflows e epoch angles ra dec pm
+pub never-overflows : (e : Elements) (epoch : Float) (degree : ℕ) (angles ra dec pm : List Float)
+    → inReach epoch ≡ true → SmallInput e degree angles ra dec pm → NeverOverflows e epoch degree angles ra dec pm
 unfolding evaluated nutatedAll
-never-overflows e epoch angles ra dec pm h s =
+never-overflows e epoch degree angles ra dec pm h s =
     let d = days epoch in
-    let f = sums-finite e d (centuries d) angles ra dec pm s (weaken-under 40 (lit≤ tt) (days-under epoch h)) (centuries-under epoch h) in
+    let f = sums-finite e d (centuries d) degree angles ra dec pm s (weaken-under 40 (lit≤ tt) (days-under epoch h)) (centuries-under epoch h) in
     let dec-finite = f .termsDEC .sums (length dec) (omega arith) in
     record {
       sums = f;

@@ -6,6 +6,7 @@ use lib.Ieee.{Float}
 use Rattle.plain.specs.Choice.{if_then_else_}
 use Rattle.refusal.specs.declared.Refusal.the-variants as R
 use Rattle.rotation.specs.Epochs.{inReach}
+use Rattle.rotation.specs.Elements.{LINEAR}
 use Rattle.rotation.specs.Evaluation.{evaluated}
 use Rattle.rotation.specs.Codes.{systemOf}
 use Rattle.rotation.specs.Table.{rowOf, neptuneAngle, neptuneRA, neptuneDEC, neptunePM, sizeOf}
@@ -26,10 +27,10 @@ use Rattle.rotation.specs.declared.table.Radii.the-variants as A
 abbrev pub neptunes : ℕ → List Float → List Float
 neptunes n xs = if eqb n 899 then xs else []
 
--- a row at an epoch
+-- a row at an epoch; Neptune's angle is of degree 1
 unfoldable pub rowEvaluated : ℕ → Elements → Float → Orientation
 unfolding evaluated
-rowEvaluated n e epoch = evaluated e epoch (neptunes n neptuneAngle) (neptunes n neptuneRA) (neptunes n neptuneDEC) (neptunes n neptunePM)
+rowEvaluated n e epoch = evaluated e epoch LINEAR (neptunes n neptuneAngle) (neptunes n neptuneRA) (neptunes n neptuneDEC) (neptunes n neptunePM)
 
 abbrev pub byRow : ℕ → Float → Row → Oriented
 byRow n epoch (Held e) = O.Given (rowEvaluated n e epoch)

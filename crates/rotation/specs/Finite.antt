@@ -8,7 +8,7 @@ use lib.Ieee.{Float, nan}
 use lib.Ieee.Scale.{finite}
 use lib.ListN.{length, getD}
 use Rattle.plain.specs.Sizes.{Below}
-use Rattle.rotation.specs.Elements.{Enough}
+use Rattle.rotation.specs.Elements.{GROUPS, groups, Enough}
 use Rattle.rotation.specs.declared.elements.Polynomial.{Polynomial}
 use Rattle.rotation.specs.declared.elements.Elements.{Elements}
 use Rattle.rotation.specs.declared.matrix.Orientation.{Orientation}
@@ -37,13 +37,13 @@ pub record SmallPolynomial (p : Polynomial) : Type 0 where
 pub record SmallValues (xs : List Float) : Type 0 where
   pub each : (i : ℕ) → i < length xs → Below 200 (getD xs i nan)
 
--- of elements, of at most 64 values of angles, and of coefficients that each have an angle
-pub record SmallInput (e : Elements) (angles ra dec pm : List Float) : Type 0 where
+-- of elements, of at most 32 angles, and of coefficients that each have one
+pub record SmallInput (e : Elements) (degree : ℕ) (angles ra dec pm : List Float) : Type 0 where
   pub poleRA : SmallPolynomial (e .ra)
   pub poleDEC : SmallPolynomial (e .dec)
   pub meridian : SmallPolynomial (e .pm)
-  pub few : length angles ≤ 64
-  pub enough : Enough angles ra dec pm
+  pub few : groups degree (length angles) ≤ GROUPS
+  pub enough : Enough degree angles ra dec pm
   pub system : SmallValues angles
   pub forRA : SmallValues ra
   pub forDEC : SmallValues dec

@@ -4,6 +4,7 @@ pub mod Elements
 pub mod Terms
 pub mod Matrix
 pub mod Evaluation
+pub mod Before
 pub mod Codes
 pub mod Table
 pub mod Builtin

@@ -1,6 +1,6 @@
 -- "so that no evaluation overflows": every result on the way to an orientation is finite. Wrap makes a 0 of a NaN and of an infinity, so that
 -- the twelve numbers alone do not tell. Definitions only.
-use Prim.Native.Nat.{ℕ, _+_, _*_, _≤_, _<_}
+use Prim.Native.Nat.{ℕ, zero, suc, _+_, _*_, _≤_, _<_}
 use mathlib.Core.Path.{_≡_}
 use mathlib.Core.Bool.{true}
 use mathlib.Core.List.{List}
@@ -13,7 +13,7 @@ use Rattle.angle.specs.Sine.{sineCosine}
 use Rattle.angle.specs.Finite.{FiniteWrap, FiniteSine}
 use Rattle.angle.specs.declared.sine.SineCosine.{SineCosine}
 use Rattle.rotation.specs.Epochs.{days, centuries}
-use Rattle.rotation.specs.Elements.{sine, cosine, angle, nutated}
+use Rattle.rotation.specs.Elements.{sine, cosine, groups, nested, angle, nutated}
 use Rattle.rotation.specs.Evaluation.{starts, unwrapped, evaluated}
 use Rattle.rotation.specs.Finite.{Finite}
 use Rattle.rotation.specs.declared.epoch.Days.{Days}
@@ -32,27 +32,33 @@ pub record FinitePolynomial (p : Polynomial) (x : Float) : Type 0 where
   pub inner : FiniteStep (p .c1) x (p .c2)
   pub outer : FiniteStep (p .c0) x (p .c1 ⊕ x ⊗ p .c2)
 
--- "Angle i is a + T·b", and its sine and cosine
-pub record FiniteAngle (t : Centuries) (angles : List Float) (i : ℕ) : Type 0 where
-  pub degrees : FiniteStep (getD angles (2 * i) nan) (t .0) (getD angles (2 * i + 1) nan)
-  pub pair : FiniteSine (angle t angles i)
+-- "nested in T from the highest inward": each step of it
+unfoldable pub FiniteNest : Centuries → List Float → (at more : ℕ) → Type 0
+unfolding nested
+FiniteNest t xs at zero = Unit {0}
+FiniteNest t xs at (suc more) = FiniteStep (getD xs at nan) (t .0) (nested t xs (at + 1) more) × FiniteNest t xs (at + 1) more
+
+-- an angle, and its sine and cosine
+pub record FiniteAngle (t : Centuries) (degree : ℕ) (angles : List Float) (i : ℕ) : Type 0 where
+  pub degrees : FiniteNest t angles ((degree + 1) * i) degree
+  pub pair : FiniteSine (angle t degree angles i)
 
 -- "In rising i, add coefficient times sine": each product, and the sum with the first i of them, which is the start where i is 0
-pub record FiniteTerms (part : SineCosine → Float) (t : Centuries) (angles cs : List Float) (start : Float) : Type 0 where
-  pub products : (i : ℕ) → i < length cs → finite (getD cs i nan ⊗ part (sineCosine (angle t angles i))) ≡ true
-  pub sums : (i : ℕ) → i ≤ length cs → finite (nutated part t angles cs start i) ≡ true
+pub record FiniteTerms (part : SineCosine → Float) (t : Centuries) (degree : ℕ) (angles cs : List Float) (start : Float) : Type 0 where
+  pub products : (i : ℕ) → i < length cs → finite (getD cs i nan ⊗ part (sineCosine (angle t degree angles i))) ≡ true
+  pub sums : (i : ℕ) → i ≤ length cs → finite (nutated part t degree angles cs start i) ≡ true
 
 -- RA, DEC and W, up to where they are wrapped
-pub record FiniteSums (e : Elements) (d : Days) (t : Centuries) (angles ra dec pm : List Float) : Type 0 where
+pub record FiniteSums (e : Elements) (d : Days) (t : Centuries) (degree : ℕ) (angles ra dec pm : List Float) : Type 0 where
   pub D : finite (d .0) ≡ true
   pub T : finite (t .0) ≡ true
   pub startRA : FinitePolynomial (e .ra) (t .0)
   pub startDEC : FinitePolynomial (e .dec) (t .0)
   pub startW : FinitePolynomial (e .pm) (d .0)
-  pub eachAngle : (i : ℕ) → 2 * i + 1 < length angles → FiniteAngle t angles i
-  pub termsRA : FiniteTerms sine t angles ra (starts e d t .ra)
-  pub termsDEC : FiniteTerms cosine t angles dec (starts e d t .dec)
-  pub termsW : FiniteTerms sine t angles pm (starts e d t .w)
+  pub eachAngle : (i : ℕ) → i < groups degree (length angles) → FiniteAngle t degree angles i
+  pub termsRA : FiniteTerms sine t degree angles ra (starts e d t .ra)
+  pub termsDEC : FiniteTerms cosine t degree angles dec (starts e d t .dec)
+  pub termsW : FiniteTerms sine t degree angles pm (starts e d t .w)
 
 -- the products of the matrix, of the pairs of right ascension, declination and meridian
 pub record FiniteProducts (a d w : SineCosine) : Type 0 where
@@ -79,7 +85,7 @@ pub record FiniteMatrix (s : Sums) : Type 0 where
   pub pairW : FiniteSine (wrapped (s .w))
   pub products : FiniteProducts (sineCosine (wrapped (s .ra))) (sineCosine (s .dec)) (sineCosine (wrapped (s .w)))
 
-pub record NeverOverflows (e : Elements) (epoch : Float) (angles ra dec pm : List Float) : Type 0 where
-  pub sums : FiniteSums e (days epoch) (centuries (days epoch)) angles ra dec pm
-  pub matrix : FiniteMatrix (unwrapped e epoch angles ra dec pm)
-  pub answer : Finite (evaluated e epoch angles ra dec pm)
+pub record NeverOverflows (e : Elements) (epoch : Float) (degree : ℕ) (angles ra dec pm : List Float) : Type 0 where
+  pub sums : FiniteSums e (days epoch) (centuries (days epoch)) degree angles ra dec pm
+  pub matrix : FiniteMatrix (unwrapped e epoch degree angles ra dec pm)
+  pub answer : Finite (evaluated e epoch degree angles ra dec pm)

@@ -6,6 +6,7 @@ use super::epoch;
 use super::evaluation;
 use super::matrix::Orientation;
 use super::matrix::Oriented;
+use super::nutation::LINEAR;
 use super::table;
 use super::table::Radii;
 use super::table::Row;
@@ -52,8 +53,8 @@ fn evaluate_row(code: u32, e: Elements, epoch: f64) -> Orientation
         let ra = [0.70];
         let dec = [-0.51];
         let pm = [-0.48];
-        return evaluation::evaluate(e, epoch, &angles, &ra, &dec, &pm);
+        return evaluation::evaluate(e, epoch, LINEAR, &angles, &ra, &dec, &pm);
     }
     let none: [f64; 0] = [];
-    evaluation::evaluate(e, epoch, &none, &none, &none, &none)
+    evaluation::evaluate(e, epoch, LINEAR, &none, &none, &none, &none)
 }

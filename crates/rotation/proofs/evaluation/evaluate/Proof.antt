@@ -1,4 +1,5 @@
 -- `evaluate` meets its contract: what each call ensures is put in. Assumes nothing.
+use Prim.Native.Nat.{ℕ}
 use mathlib.Core.Path.{_≡_}
 use mathlib.Core.List.{List}
 use lib.Ieee.{Float}
@@ -38,18 +39,18 @@ orient-requires c κs = search needs
 
 -- the parts, put together
 whole :
-    (e : Elements) (epoch : Float) (angles ra dec pm : List Float) (d : Days) (t : Centuries) (x y z : Float) (sums : Sums) (r : Orientation)
+    (e : Elements) (epoch : Float) (degree : ℕ) (angles ra dec pm : List Float) (d : Days) (t : Centuries) (x y z : Float) (sums : Sums) (r : Orientation)
     → d ≡ days epoch → t ≡ centuries d
     → x ≡ byCentury (e .ra) t → y ≡ byCentury (e .dec) t → z ≡ byDay (e .pm) d
-    → sums ≡ nutatedAll t angles ra dec pm (record { ra = x; dec = y; w = z })
+    → sums ≡ nutatedAll t degree angles ra dec pm (record { ra = x; dec = y; w = z })
     → r ≡ oriented (sums .ra) (sums .dec) (sums .w)
-    → r ≡ evaluated e epoch angles ra dec pm
+    → r ≡ evaluated e epoch degree angles ra dec pm
 unfolding evaluated
-whole e epoch angles ra dec pm d t x y z sums r hd ht hx hy hz hs hr = rw (hr, hs, hx, hy, hz, ht, hd)
+whole e epoch degree angles ra dec pm d t x y z sums r hd ht hx hy hz hs hr = rw (hr, hs, hx, hy, hz, ht, hd)
 
 returns : tie.Need-returns
 returns c =
-    whole _ _ _ _ _ _ _ _ _ _ _ _ _
+    whole _ _ _ _ _ _ _ _ _ _ _ _ _ _
     (c .before .before .before .before .before .before .in-days .ensures)
     (c .before .before .before .before .before .in-centuries .ensures)
     (c .before .before .before .before .by-century .ensures)

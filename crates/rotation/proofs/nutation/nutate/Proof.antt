@@ -1,44 +1,46 @@
 -- `nutate` meets its contract: the loop keeps the sums at term i, and every term has its angle. Assumes nothing.
-use Prim.Native.Nat.{_*_, _≤_, _-_}
+use mathlib.Core.Path.{ap, _∙_}
+use Prim.Native.Nat.{_+_, _*_, _≤_, _<_, _-_}
 use native.Mathlib.Omega.{arith}
 use lib.ListN.{length}
 use borrow.Author.Needs.{needs}
-use Rattle.rotation.proofs.Terms.{ReachedAll, no-terms, more-terms, all-terms, angles-enough}
+use Rattle.angle.specs.Sine.{sineCosine}
+use Rattle.rotation.specs.Elements.{CUBIC, groups}
+use Rattle.rotation.proofs.Nested.{group-within}
+use Rattle.rotation.proofs.Terms.{ReachedAll, no-terms, more-terms, all-terms}
 use Rattle.rotation.proofs.nutation.nutate.Statement.{statement}
 use Rattle.rotation.proofs.nutation.nutate.Tie as tie
 
 abbrev Inv-loop : tie.InvT-loop
-Inv-loop t angles ra dec pm terms sums₀ i₀ sums i = (i ≤ terms) × (2 * terms ≤ length angles) × ReachedAll t angles ra dec pm sums₀ sums i
+Inv-loop t degree angles ra dec pm terms sums₀ i₀ sums i =
+    (i ≤ terms) × (degree ≤ CUBIC) × (terms ≤ groups degree (length angles)) × ReachedAll t degree angles ra dec pm sums₀ sums i
 
 abbrev μ-loop : tie.MeasureT-loop
-μ-loop t angles ra dec pm terms sums₀ i₀ sums i = terms - i
+μ-loop t degree angles ra dec pm terms sums₀ i₀ sums i = terms - i
 
 longest-requires : tie.Need-longest-requires Inv-loop μ-loop
 longest-requires c κs = search needs
 
 loop-holds : tie.Need-loop-holds Inv-loop μ-loop
-loop-holds c = (omega arith, angles-enough _ _ _ _ _ (c .before .before .before .before .before .pre) (c .longest .ensures), no-terms _ _ _ _ _ _)
+loop-holds c =
+    let e = c .before .before .before .before .before .pre in
+    (omega arith, e .low, c .longest .ensures .least _ (e .forRA) (e .forDEC) (e .forPM), no-terms _ _ _ _ _ _ _)
 
-mul-sine-cosine : tie.Need-mul-sine-cosine Inv-loop μ-loop
-mul-sine-cosine c = search needs
+-- the group of term i is within the angles
+within : (c : tie.In-loop Inv-loop μ-loop)
+    → (c .before .before .before .before .before .before .before .args .degree + 1) * c .before .loop .i
+    + c .before .before .before .before .before .before .before .args .degree
+    < length (c .before .before .before .before .before .before .before .args .angles .now)
+within c = group-within _ (c .before .loop .i) _ (omega arith)
 
-mul-sine-cosine-2 : tie.Need-mul-sine-cosine-2 Inv-loop μ-loop
-mul-sine-cosine-2 c = search needs
+add-nest : tie.Need-add-nest Inv-loop μ-loop
+add-nest c = search needs
 
-shared-slice-read-sine-cosine : tie.Need-shared-slice-read-sine-cosine Inv-loop μ-loop
-shared-slice-read-sine-cosine c = search needs
+mul-nest : tie.Need-mul-nest Inv-loop μ-loop
+mul-nest c = omega (arith, within c)
 
-mul-sine-cosine-3 : tie.Need-mul-sine-cosine-3 Inv-loop μ-loop
-mul-sine-cosine-3 c = search needs
-
-add-sine-cosine : tie.Need-add-sine-cosine Inv-loop μ-loop
-add-sine-cosine c = search needs
-
-mul-sine-cosine-4 : tie.Need-mul-sine-cosine-4 Inv-loop μ-loop
-mul-sine-cosine-4 c = search needs
-
-shared-slice-read-sine-cosine-2 : tie.Need-shared-slice-read-sine-cosine-2 Inv-loop μ-loop
-shared-slice-read-sine-cosine-2 c = search needs
+nest-requires : tie.Need-nest-requires Inv-loop μ-loop
+nest-requires c κs = omega (arith, within c)
 
 sine-cosine-requires : tie.Need-sine-cosine-requires Inv-loop μ-loop
 sine-cosine-requires c κs = search needs
@@ -54,13 +56,17 @@ loop-less c = search needs
 
 loop-again : tie.Need-loop-again Inv-loop μ-loop
 loop-again c =
-    let inv = c .before .before .before .before .before .before .loop .inv in
-    (omega arith, inv .1, more-terms _ _ _ _ _ _ _ _ _ _ (inv .2) (c .before .sine-cosine .ensures) (c .add-terms .ensures))
+    let l = c .before .before .before .before .loop .inv in (
+      omega arith,
+      l .1,
+      l .2,
+      more-terms _ _ _ _ _ _ _ _ _ _ _ (l .3) (c .before .sine-cosine .ensures ∙ ap sineCosine (c .before .before .nest .ensures)) (c .add-terms .ensures),
+    )
 
 returns : tie.Need-returns Inv-loop μ-loop
 returns c =
     let l = c .before .before .longest .ensures in
-    all-terms _ _ _ _ _ _ _ _ (c .before .loop .inv .2) (omega (arith, l .coversRA)) (omega (arith, l .coversDEC)) (omega (arith, l .coversPM))
+    all-terms _ _ _ _ _ _ _ _ _ (c .before .loop .inv .3) (omega (arith, l .coversRA)) (omega (arith, l .coversDEC)) (omega (arith, l .coversPM))
 
 pub nutate-spec : {M : Type 1} → statement M
 nutate-spec =
@@ -70,13 +76,9 @@ nutate-spec =
     μ-loop
     longest-requires
     loop-holds
-    mul-sine-cosine
-    mul-sine-cosine-2
-    shared-slice-read-sine-cosine
-    mul-sine-cosine-3
-    add-sine-cosine
-    mul-sine-cosine-4
-    shared-slice-read-sine-cosine-2
+    add-nest
+    mul-nest
+    nest-requires
     sine-cosine-requires
     add-terms-requires
     add-i
