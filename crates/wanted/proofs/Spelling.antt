@@ -29,6 +29,7 @@ suffix-length W.NutPrecRa = omega arith
 suffix-length W.NutPrecDec = omega arith
 suffix-length W.NutPrecPm = omega arith
 suffix-length W.NutPrecAngles = omega arith
+suffix-length W.MaxPhaseDegree = omega arith
 suffix-length W.Radii = omega arith
 
 pub name-length : (n : ℕ) (wanted : Wanted) → length (nameOf n wanted) ≤ NAME

@@ -1,7 +1,7 @@
 -- "None of the three present: 10; some missing: 11. BODYn_NUT_PREC_RA, _DEC and _PM may be absent. If any is there,
--- BODYs_NUT_PREC_ANGLES must be (else 11), s being the hundreds of n, or n itself up to 10; it has an even count of at most 64, and at
--- least twice the longest of the three; otherwise 12." Definitions only.
-use Prim.Native.Nat.{ℕ, _*_, _%_, max}
+-- BODYs_NUT_PREC_ANGLES must be (else 11), s being the hundreds of n, or n itself up to 10"; "Angles then come in groups of degree plus one
+-- coefficients, .. at most 32 groups. .. 12 asks whole groups and enough of them." Definitions only.
+use Prim.Native.Nat.{ℕ, _+_, _%_, max}
 use mathlib.Core.Bool.{Bool, true, _&&_, _||_, not}
 use mathlib.Core.List.{List, []}
 use lib.Dec.{leb, eqb}
@@ -10,6 +10,7 @@ use lib.ListN.{length, getD}
 use Rattle.plain.specs.Choice.{if_then_else_}
 use Rattle.plain.specs.Bytes.{within}
 use Rattle.plain.specs.Doubles.{nought}
+use Rattle.rotation.specs.Elements.{GROUPS, groups}
 use Rattle.rotation.specs.declared.elements.Polynomial.{Polynomial}
 use Rattle.rotation.specs.declared.elements.Elements.{Elements}
 use Rattle.layout.specs.State.{Pool}
@@ -56,14 +57,13 @@ elements s n =
 abbrev pub nutating : Pool → ℕ → Bool
 nutating s n = there s n W.NutPrecRa || there s n W.NutPrecDec || there s n W.NutPrecPm
 
--- the most values that a system's angles have
-abbrev pub ANGLES : ℕ
-ANGLES = 64
+-- "whole groups and enough of them", "at most 32": by the counts of the angles' values and of the coefficients
+abbrev pub enoughGroups : (degree angles ra dec pm : ℕ) → Bool
+enoughGroups degree angles ra dec pm =
+    eqb (angles % (degree + 1)) 0 && leb (groups degree angles) GROUPS && leb (max ra (max dec pm)) (groups degree angles)
 
--- "it has an even count of at most 64, and at least twice the longest of the three"
-abbrev pub enoughAngles : (angles ra dec pm : List Float) → Bool
-enoughAngles angles ra dec pm =
-    eqb (length angles % 2) 0 && leb (length angles) ANGLES && leb (2 * max (length ra) (max (length dec) (length pm))) (length angles)
+abbrev pub enoughAngles : (degree : ℕ) (angles ra dec pm : List Float) → Bool
+enoughAngles degree angles ra dec pm = enoughGroups degree (length angles) (length ra) (length dec) (length pm)
 
 -- ---- what is missing, of a mixed kind or miscounted; k is the system of the code n
 
@@ -78,12 +78,12 @@ allNumeric s n k =
     numeric s n W.PoleRa && numeric s n W.PoleDec && numeric s n W.Pm && numeric s n W.NutPrecRa && numeric s n W.NutPrecDec
     && numeric s n W.NutPrecPm && (if nutating s n then numeric s k W.NutPrecAngles else true)
 
--- "otherwise 12"
-abbrev pub wellCounted : Pool → (n k : ℕ) → Bool
-wellCounted s n k =
+-- "otherwise 12", the angles being of a degree
+abbrev pub wellCounted : Pool → (n k degree : ℕ) → Bool
+wellCounted s n k degree =
     fewValues (list s n W.PoleRa) && fewValues (list s n W.PoleDec) && fewValues (list s n W.Pm)
     && (if nutating s n
-    then enoughAngles (list s k W.NutPrecAngles) (list s n W.NutPrecRa) (list s n W.NutPrecDec) (list s n W.NutPrecPm)
+    then enoughAngles degree (list s k W.NutPrecAngles) (list s n W.NutPrecRa) (list s n W.NutPrecDec) (list s n W.NutPrecPm)
     else true)
 
 -- the angles that are looked at: none where no nutation variable is there

@@ -1,5 +1,5 @@
 -- "With n the code, the variables are BODYn_POLE_RA, BODYn_POLE_DEC, BODYn_PM .. BODYn_NUT_PREC_RA, _DEC and _PM ..
--- BODYs_NUT_PREC_ANGLES .. BODYn_RADII": their bytes. Definitions only.
+-- BODYs_NUT_PREC_ANGLES .. BODYn_RADII", "BODYs_MAX_PHASE_DEGREE": their bytes. Definitions only.
 use Prim.Native.Nat.{ℕ, _+_, _/_, _%_}
 use mathlib.Core.List.{List, [], _∷_, _++_}
 use lib.Dec.{ltb}
@@ -21,11 +21,12 @@ suffix W.NutPrecRa = ascii "_NUT_PREC_RA"
 suffix W.NutPrecDec = ascii "_NUT_PREC_DEC"
 suffix W.NutPrecPm = ascii "_NUT_PREC_PM"
 suffix W.NutPrecAngles = ascii "_NUT_PREC_ANGLES"
+suffix W.MaxPhaseDegree = ascii "_MAX_PHASE_DEGREE"
 suffix W.Radii = ascii "_RADII"
 
 -- the length of the longest of them
 abbrev pub SUFFIX : ℕ
-SUFFIX = 16
+SUFFIX = 17
 
 -- the largest code, and how many figures it has
 abbrev pub LARGEST : ℕ

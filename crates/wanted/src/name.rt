@@ -16,6 +16,7 @@ pub enum Wanted {
     NutPrecDec,
     NutPrecPm,
     NutPrecAngles,
+    MaxPhaseDegree,
     Radii,
 }
 
@@ -70,6 +71,7 @@ fn append_suffix(wanted: Wanted, out: &mut [u8], at: usize) -> usize
         Wanted::NutPrecDec => append(b"_NUT_PREC_DEC", out, at),
         Wanted::NutPrecPm => append(b"_NUT_PREC_PM", out, at),
         Wanted::NutPrecAngles => append(b"_NUT_PREC_ANGLES", out, at),
+        Wanted::MaxPhaseDegree => append(b"_MAX_PHASE_DEGREE", out, at),
         Wanted::Radii => append(b"_RADII", out, at),
     }
 }

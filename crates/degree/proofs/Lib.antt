@@ -1,0 +1,2 @@
+-- Laws about degrees, for the proofs of the crates above.
+pub mod Degrees
