@@ -1,8 +1,9 @@
--- The steps in their order are the documents': 10, 11, 16 and 12 for the texts of any pool. Assumes nothing.
+-- The steps in their order are the documents': 10, 11, 23, 16 and 12 for the texts of any pool. Assumes nothing.
 use mathlib.Core.Path.{_≡_, refl, ap, _∙_}
 use mathlib.Core.Bool.{Bool, true, false, _||_, not}
 use mathlib.Core.List.{List}
 use Prim.Native.Nat.{ℕ, _+_, _≤_, _<_}
+use native.Mathlib.Nat.{zero-mod, zero-div}
 use native.Mathlib.Omega.{arith}
 use lib.Ieee.{Float}
 use Rattle.plain.specs.Choice.{if_then_else_}
@@ -13,6 +14,9 @@ use Rattle.rotation.specs.declared.matrix.Oriented.the-variants.{Refused}
 use Rattle.plain.proofs.Tests.{true-false}
 use Rattle.layout.specs.State.{Pool}
 use Rattle.wanted.specs.Elements.{there, numeric, list, fewValues, polynomial, nutating, angles, enoughAngles}
+use Rattle.degree.specs.Degree.{degree}
+use Rattle.degree.specs.declared.Degree.{Degree}
+use Rattle.degree.specs.declared.Degree.the-variants as D
 use Rattle.globe.specs.Orientation.{byElements}
 use Rattle.wanted.specs.Steps.{valuesOf, presence, isMixed, baseOf}
 use Rattle.wanted.specs.declared.elements.Values.{Values}
@@ -96,35 +100,40 @@ module _ (s : Pool) (n k : ℕ) (epoch : Float) where
   -- ---- all three are there
 
   -- where no nutation variable is there, no angles are enough
-  enough-by : (b : Bool) → nutating s n ≡ b
-      → enoughAngles (angles s n k) (list s n W.NutPrecRa) (list s n W.NutPrecDec) (list s n W.NutPrecPm)
+  enough-by : (d : ℕ) (b : Bool) → nutating s n ≡ b
+      → enoughAngles d (angles s n k) (list s n W.NutPrecRa) (list s n W.NutPrecDec) (list s n W.NutPrecPm)
       ≡ (if nutating s n
-      then enoughAngles (list s k W.NutPrecAngles) (list s n W.NutPrecRa) (list s n W.NutPrecDec) (list s n W.NutPrecPm)
+      then enoughAngles d (list s k W.NutPrecAngles) (list s n W.NutPrecRa) (list s n W.NutPrecDec) (list s n W.NutPrecPm)
       else true)
-  enough-by true e = simp e
-  enough-by false e =
+  enough-by d true e = simp e
+  enough-by d false e =
       let a = neither (there s n W.NutPrecRa || there s n W.NutPrecDec) (there s n W.NutPrecPm) e in
       let b = neither (there s n W.NutPrecRa) (there s n W.NutPrecDec) (a .0) in
-      simp (e, not-there-empty s n W.NutPrecRa (b .0), not-there-empty s n W.NutPrecDec (b .1), not-there-empty s n W.NutPrecPm (a .1))
+      let x = not-there-empty s n W.NutPrecRa (b .0) in
+      let y = not-there-empty s n W.NutPrecDec (b .1) in
+      let z = not-there-empty s n W.NutPrecPm (a .1) in
+      simp (e, x, y, z, zero-mod (d + 1), zero-div (d + 1))
 
   module _ (e : there s n W.PoleRa ≡ true) (f : there s n W.PoleDec ≡ true) (g : there s n W.Pm ≡ true) where
     -- and of numbers: the counts decide
-    counted-by : (x y z : Bool) → fewValues (list s n W.PoleRa) ≡ x → fewValues (list s n W.PoleDec) ≡ y → fewValues (list s n W.Pm) ≡ z
+    counted-by : (d : ℕ) (x y z : Bool) → degree s n k ≡ D.Of d
+        → fewValues (list s n W.PoleRa) ≡ x → fewValues (list s n W.PoleDec) ≡ y → fewValues (list s n W.Pm) ≡ z
         → numeric s n W.PoleRa ≡ true → numeric s n W.PoleDec ≡ true → numeric s n W.Pm ≡ true
         → byNutation s n k epoch false (baseOf ra dec pm) ≡ byElements s n epoch (Of k)
-    counted-by true true true a b c u v w = simp (e, f, g, u, v, w, a, b, c, enough-by (nutating s n) refl)
-    counted-by true true false a b c u v w = simp (e, f, g, u, v, w, a, b, c, either-way)
-    counted-by true false z a b c u v w = simp (e, f, g, u, v, w, a, b, either-way)
-    counted-by false y z a b c u v w = simp (e, f, g, u, v, w, a, either-way)
+    counted-by d true true true q a b c u v w = simp (e, f, g, q, u, v, w, a, b, c, enough-by d (nutating s n) refl)
+    counted-by d true true false q a b c u v w = simp (e, f, g, q, u, v, w, a, b, c, either-way)
+    counted-by d true false z q a b c u v w = simp (e, f, g, q, u, v, w, a, b, either-way)
+    counted-by d false y z q a b c u v w = simp (e, f, g, q, u, v, w, a, either-way)
 
-    -- a string in one of them is told before any count
-    told-by : (x y z : Bool) → numeric s n W.PoleRa ≡ x → numeric s n W.PoleDec ≡ y → numeric s n W.Pm ≡ z
+    -- a bad degree is told before a string in one of them, and this before any count
+    told-by : (h : Degree) (x y z : Bool) → degree s n k ≡ h → numeric s n W.PoleRa ≡ x → numeric s n W.PoleDec ≡ y → numeric s n W.Pm ≡ z
         → byNutation s n k epoch (not x || not y || not z) (baseOf ra dec pm) ≡ byElements s n epoch (Of k)
-    told-by true true true u v w =
-        counted-by (fewValues (list s n W.PoleRa)) (fewValues (list s n W.PoleDec)) (fewValues (list s n W.Pm)) refl refl refl u v w
-    told-by true true false u v w = simp (e, f, g, u, v, w)
-    told-by true false z u v w = simp (e, f, g, u, v)
-    told-by false y z u v w = simp (e, f, g, u)
+    told-by (D.Of d) true true true q u v w =
+        counted-by d (fewValues (list s n W.PoleRa)) (fewValues (list s n W.PoleDec)) (fewValues (list s n W.Pm)) q refl refl refl u v w
+    told-by (D.Of d) true true false q u v w = simp (e, f, g, q, u, v, w)
+    told-by (D.Of d) true false z q u v w = simp (e, f, g, q, u, v)
+    told-by (D.Of d) false y z q u v w = simp (e, f, g, q, u)
+    told-by D.Bad x y z q u v w = simp (e, f, g, q)
 
     told : byNutation s n k epoch (isMixed ra || isMixed dec || isMixed pm) (baseOf ra dec pm) ≡ byElements s n epoch (Of k)
     told =
@@ -133,7 +142,7 @@ module _ (s : Pool) (n k : ℕ) (epoch : Float) where
         let z = numeric s n W.Pm in
         let m : (isMixed ra || isMixed dec || isMixed pm) ≡ (not x || not y || not z) =
         rw (mixed-there x (list s n W.PoleRa) e, mixed-there y (list s n W.PoleDec) f, mixed-there z (list s n W.Pm) g) in
-        ap (λ (b : Bool). byNutation s n k epoch b (baseOf ra dec pm)) m ∙ told-by x y z refl refl refl
+        ap (λ (b : Bool). byNutation s n k epoch b (baseOf ra dec pm)) m ∙ told-by (degree s n k) x y z refl refl refl refl
 
   pub all-there : 3 ≤ presence ra + presence dec + presence pm
       → byNutation s n k epoch (isMixed ra || isMixed dec || isMixed pm) (baseOf ra dec pm) ≡ byElements s n epoch (Of k)

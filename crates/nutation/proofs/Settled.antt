@@ -1,9 +1,9 @@
--- What four variables found in buffers settle is the answer by nutation, for any texts: 11 where angles are wanted and absent, then 16 where
--- one of the four has a string, then what the counts come to. Assumes nothing.
-use mathlib.Core.Path.{_≡_, refl, sym, _∙_}
+-- What four variables found in buffers and a degree settle is the answer by nutation, for any texts: 11 where angles are wanted and absent,
+-- then 23 for a degree that is none, then 16 where one of the four has a string, then what the counts come to. Assumes nothing.
+use mathlib.Core.Path.{_≡_, refl, sym, ap, _∙_}
 use mathlib.Core.Bool.{Bool, true, false, _&&_, _||_, not, and-false}
 use mathlib.Core.List.{List, []}
-use Prim.Native.Nat.{ℕ}
+use Prim.Native.Nat.{ℕ, _≤_}
 use borrow.Author.Tests.{not-true, not-false}
 use lib.Ieee.{Float}
 use lib.ListN.{length}
@@ -11,13 +11,17 @@ use Rattle.plain.specs.Choice.{if_then_else_}
 use Rattle.plain.proofs.Tests.{both}
 use Rattle.layout.specs.State.{Pool}
 use Rattle.variables.specs.declared.variable.Found.{Found}
-use Rattle.wanted.specs.Elements.{ANGLES, there, numeric, list, nutating}
+use Rattle.rotation.specs.Elements.{CUBIC}
+use Rattle.wanted.specs.Elements.{there, numeric, list, nutating}
 use Rattle.wanted.specs.Steps.{Looks}
 use Rattle.wanted.specs.declared.elements.Base.{Base}
 use Rattle.wanted.specs.declared.name.Wanted.the-variants as W
 use Rattle.wanted.proofs.Found.{not-there-empty, not-there-numeric}
+use Rattle.degree.specs.Degree.{degreeWhere, degree, Low}
+use Rattle.degree.specs.declared.Degree.{Degree}
+use Rattle.degree.specs.declared.Degree.the-variants as D
 use Rattle.nutation.specs.Found.{isThere, anyThere, anyStrange}
-use Rattle.nutation.specs.Terms.{COEFFICIENTS, countedOf, termsOf}
+use Rattle.nutation.specs.Terms.{COEFFICIENTS, ANGLES, countedOf, termsOf}
 use Rattle.nutation.specs.Answer.{byTerms, numericNutation, byNutation}
 use Rattle.nutation.proofs.Looked.{found-there, found-strange}
 use Rattle.nutation.proofs.Coefficients.{coefficients, decided}
@@ -64,11 +68,11 @@ module _ (s : Pool) (n k : ℕ) (epoch : Float) (base : Base) {zr zd zp za ra de
       rw (found-strange a looked (absent-angles s n k), found-strange r lr (not-there-numeric s n W.NutPrecRa), found-strange d ld (not-there-numeric s n W.NutPrecDec), found-strange p lp (not-there-numeric s n W.NutPrecPm))
       (one-strange (anglesNumeric s n k) (numeric s n W.NutPrecRa) (numeric s n W.NutPrecDec) (numeric s n W.NutPrecPm))
 
-  -- the angles are there and all four of numbers: the counts decide
-  counted : isThere a ≡ true → anyStrange a r d p ≡ false
+  -- the angles are there, of a degree, and all four of numbers: the counts decide
+  counted : (g : ℕ) → g ≤ CUBIC → degree s n k ≡ D.Of g → isThere a ≡ true → anyStrange a r d p ≡ false
       → length zr ≡ COEFFICIENTS → length zd ≡ COEFFICIENTS → length zp ≡ COEFFICIENTS → length za ≡ ANGLES
-      → byTerms epoch angles ra dec pm base (countedOf a r d p) ≡ byNutation s n k epoch false base
-  counted e f hr hd hp ha =
+      → byTerms epoch angles ra dec pm base (countedOf g a r d p) ≡ byNutation s n k epoch false base
+  counted g low q e f hr hd hp ha =
       let t : anglesThere s n k ≡ true = sym (found-there a looked) ∙ e in
       let u : numericNutation s n k ≡ true = not-false (numericNutation s n k) (sym any-strange ∙ f) in
       let x = both (numeric s n W.NutPrecRa && numeric s n W.NutPrecDec && numeric s n W.NutPrecPm) (anglesNumeric s n k) u in
@@ -78,17 +82,21 @@ module _ (s : Pool) (n k : ℕ) (epoch : Float) (base : Base) {zr zd zp za ra de
       (coefficients r lr (z .0) hr (not-there-empty s n W.NutPrecRa))
       (coefficients d ld (z .1) hd (not-there-empty s n W.NutPrecDec))
       (coefficients p lp (y .1) hp (not-there-empty s n W.NutPrecPm))
-      ha a looked t (x .1)
-      ∙ rw (t, u)
+      ha g low a looked t (x .1)
+      ∙ rw (t, u, q)
 
   module _ (hr : length zr ≡ COEFFICIENTS) (hd : length zd ≡ COEFFICIENTS) (hp : length zp ≡ COEFFICIENTS) (ha : length za ≡ ANGLES) where
-    -- 11, then 16 for pole and meridian, then 16 for the four, then the counts
-    settled-by : (t mixed u : Bool) → isThere a ≡ t → anyStrange a r d p ≡ u
-        → byTerms epoch angles ra dec pm base (termsOf mixed a r d p) ≡ byNutation s n k epoch mixed base
-    settled-by false mixed u e f = rw (e, sym (found-there a looked) ∙ e)
-    settled-by true true u e f = rw (e, sym (found-there a looked) ∙ e)
-    settled-by true false true e f = rw (e, f, sym (found-there a looked) ∙ e, not-true (numericNutation s n k) (sym any-strange ∙ f))
-    settled-by true false false e f = rw (e, f) (counted e f hr hd hp ha)
+    -- 11, then 23, then 16 for pole and meridian, then 16 for the four, then the counts
+    settled-by : (t : Bool) (g : Degree) (mixed u : Bool) → isThere a ≡ t → anyStrange a r d p ≡ u → Low g → degree s n k ≡ g
+        → byTerms epoch angles ra dec pm base (termsOf g mixed a r d p) ≡ byNutation s n k epoch mixed base
+    settled-by false g mixed u e f low q = rw (e, sym (found-there a looked) ∙ e)
+    settled-by true D.Bad mixed u e f low q = rw (e, sym (found-there a looked) ∙ e, q)
+    settled-by true (D.Of x) true u e f low q = rw (e, sym (found-there a looked) ∙ e, q)
+    settled-by true (D.Of x) false true e f low q =
+        rw (e, f, sym (found-there a looked) ∙ e, q, not-true (numericNutation s n k) (sym any-strange ∙ f))
+    settled-by true (D.Of x) false false e f low q = rw (e, f) (counted x (low .cubic x refl) q e f hr hd hp ha)
 
-    pub settled : (mixed : Bool) → byTerms epoch angles ra dec pm base (termsOf mixed a r d p) ≡ byNutation s n k epoch mixed base
-    settled mixed = settled-by (isThere a) mixed (anyStrange a r d p) refl refl
+    pub settled : (g : Degree) (mixed : Bool) → Low g → g ≡ degreeWhere wanted s k
+        → byTerms epoch angles ra dec pm base (termsOf g mixed a r d p) ≡ byNutation s n k epoch mixed base
+    settled g mixed low q =
+        settled-by (isThere a) g mixed (anyStrange a r d p) refl refl low (sym (q ∙ ap (λ (b : Bool). degreeWhere b s k) is-nutating))

@@ -1,4 +1,4 @@
-// The answer for a body whose pole and meridian are there: 11, 16 or 12, or document 01's evaluation.
+// The answer for a body whose pole and meridian are there: 11, 23, 16 or 12, or document 01's evaluation.
 use crate::found;
 use crate::terms;
 use crate::terms::ANGLES;
@@ -43,7 +43,8 @@ pub fn by_nutation(
     let p = elements::find(pool, code, Wanted::NutPrecPm, &mut pm);
     let wanted = found::any_there(r, d, p);
     let a = found::find_angles(pool, system, wanted, &mut angles);
-    let terms = terms::judge(mixed, a, r, d, p);
+    let degree = degree::find(pool, system, wanted);
+    let terms = terms::judge(degree, mixed, a, r, d, p);
     by_terms(terms, base, epoch, &angles, &ra, &dec, &pm)
 }
 
@@ -62,6 +63,7 @@ fn by_terms(
 {
     match terms {
         Terms::Missing => Oriented::Refused(Refusal::Incomplete),
+        Terms::BadDegree => Oriented::Refused(Refusal::BadDegree),
         Terms::Mixed => Oriented::Refused(Refusal::MixedKind),
         Terms::Miscounted => Oriented::Refused(Refusal::WrongCount),
         Terms::Counted(n) => {
@@ -84,12 +86,20 @@ fn evaluate(
     pm: &[f64],
 ) -> Orientation
     requires { ⌜ Fronts n (now angles) (now ra) (now dec) (now pm) ⌝ }
-    ensures { λ r. ⌜ r ≡ evaluated e epoch (take (n .angles) (now (angles .entry))) (take (n .ra) (now (ra .entry)))
+    ensures { λ r. ⌜ r ≡ evaluated e epoch (n .degree) (take (n .angles) (now (angles .entry))) (take (n .ra) (now (ra .entry)))
         (take (n .dec) (now (dec .entry))) (take (n .pm) (now (pm .entry))) ⌝ }
 {
     let i = n.angles;
     let j = n.ra;
     let k = n.dec;
     let l = n.pm;
-    evaluation::evaluate(e, epoch, &angles[..i], &ra[..j], &dec[..k], &pm[..l])
+    evaluation::evaluate(
+        e,
+        epoch,
+        n.degree,
+        &angles[..i],
+        &ra[..j],
+        &dec[..k],
+        &pm[..l],
+    )
 }

@@ -24,6 +24,7 @@ evaluate-requires c κs =
     let n = s .args .n in
     let a : length (take (n .angles) (s .args .angles .now)) ≡ n .angles = length-take-le (n .angles) (s .args .angles .now) (s .pre .inAngles) in
     record {
+      low = s .pre .low;
       forRA = rw (a, length-take-le (n .ra) (s .args .ra .now) (s .pre .inRA)) (s .pre .forRA);
       forDEC = rw (a, length-take-le (n .dec) (s .args .dec .now) (s .pre .inDEC)) (s .pre .forDEC);
       forPM = rw (a, length-take-le (n .pm) (s .args .pm .now) (s .pre .inPM)) (s .pre .forPM);
