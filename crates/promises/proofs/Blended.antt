@@ -14,7 +14,7 @@ never-blended =
     record {
       poolOrientations = λ m n epoch o e.
           let h = demand-2 .poolOrientations m n epoch o .0 e .1 in
-          record { system = h .system; legal = h .legal; whole = h .whole; evaluation = h .evaluation };
+          record { system = h .system; legal = h .legal; whole = h .whole; degree = h .degree; announced = h .announced; evaluation = h .evaluation };
       tableOrientations = λ m n epoch o e.
           let h = demand-2 .tableOrientations m n epoch o .0 e in
           record { row = h .row; listed = h .listed; evaluation = h .evaluation };

@@ -9,7 +9,7 @@ use Rattle.angle.specs.Wrap.{wrapped, kept}
 use Rattle.angle.specs.Series.{closing}
 use Rattle.angle.specs.Sine.{sineCosine, ofWrapped, core}
 use Rattle.rotation.specs.Epochs.{days, centuries, inReach}
-use Rattle.rotation.specs.Elements.{nutated, nutatedAll}
+use Rattle.rotation.specs.Elements.{nested, nutated, nutatedAll}
 use Rattle.rotation.specs.Matrix.{oriented}
 use Rattle.rotation.specs.Evaluation.{evaluated}
 use Rattle.rotation.specs.Codes.{systemOf}
@@ -50,5 +50,5 @@ loading label bytes s = loadAnswer label bytes s
 
 -- an evaluation, and the built-in table
 unfoldable pub evaluating : ℕ → Float → Oriented
-unfolding computing wrapped kept closing core ofWrapped sineCosine days centuries inReach nutated nutatedAll oriented evaluated systemOf rowOf rowEvaluated builtinOrientation
+unfolding computing wrapped kept closing core ofWrapped sineCosine days centuries inReach nested nutated nutatedAll oriented evaluated systemOf rowOf rowEvaluated builtinOrientation
 evaluating n epoch = builtinOrientation n epoch

@@ -32,7 +32,7 @@ unfolding orientationReply
 in-range S.Builtin m n epoch o e = builtin-in-range n epoch o e
 in-range S.Pool m n epoch o e =
     let h = P.given-exactly m n epoch o .0 e .1 in
-    subst InRange (sym (h .evaluation)) (evaluated-in-range _ epoch _ _ _ _)
+    subst InRange (sym (h .evaluation)) (evaluated-in-range _ epoch _ _ _ _ _)
 
 pub demand-2 : Demand2 library
 unfolding asked

@@ -15,6 +15,7 @@ pub mod Together
 pub mod Said
 pub mod Blended
 pub mod Overflow
+pub mod Before
 pub mod Above0
 pub mod Proper
 pub mod Steps

@@ -5,6 +5,7 @@ use Rattle.rotation.specs.Table.{sizeOf}
 use Rattle.rotation.specs.Builtin.{builtinRadii}
 use Rattle.layout.specs.Damage.{sound}
 use Rattle.wanted.specs.Names.{nameOf}
+use Rattle.degree.specs.Degree.{degreeWhere}
 use Rattle.globe.specs.Orientation.{orientationFrom, orientationReply}
 use Rattle.globe.specs.Radii.{radiiReply}
 use Rattle.promises.specs.Marked.{Marked, empty, undelimited, threePlaces, largest, steepest, appending, undone, wraps, earth, epochs, eleven, noValue}
@@ -47,7 +48,7 @@ unfolding evaluating
 case-9 = refl
 
 case-10 : epochs ≡ true
-unfolding loading evaluating nameOf orientationFrom
+unfolding loading evaluating nameOf degreeWhere orientationFrom
 case-10 = refl
 
 case-11 : eleven ≡ true

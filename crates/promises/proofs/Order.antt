@@ -85,8 +85,9 @@ orientations n epoch m e =
       noCode = λ r s. simp (e, r, s);
       noBody = λ k r s b. simp (e, r, s, b);
       incomplete = λ k r s b c. simp (e, r, s, b, c);
-      mixedKind = λ k r s b c x. simp (e, r, s, b, c, x);
-      wrongCount = λ k r s b c x w. simp (e, r, s, b, c, x, w);
+      badDegree = λ k r s b c g. simp (e, r, s, b, c, g);
+      mixedKind = λ k d r s b c g x. simp (e, r, s, b, c, g, x);
+      wrongCount = λ k d r s b c g x w. simp (e, r, s, b, c, g, x, w);
     }
 
 radii : (n : ℕ) (m : List ℕ) → sound m ≡ true → RadiiOrder library n m

@@ -25,7 +25,10 @@ use Rattle.layout.specs.State.{Pool}
 use Rattle.layout.specs.Memory.{decode}
 use Rattle.layout.specs.Damage.{sound}
 use Rattle.wanted.specs.Elements.{noneThere, complete, allNumeric, wellCounted, elements, angles, list}
-use Rattle.globe.specs.Orientation.{byElements, orientationFrom, orientationReply}
+use Rattle.degree.specs.Degree.{degree}
+use Rattle.degree.specs.declared.Degree.{Degree}
+use Rattle.degree.specs.declared.Degree.the-variants as D
+use Rattle.globe.specs.Orientation.{byDegree, byElements, orientationFrom, orientationReply}
 use Rattle.wanted.specs.declared.name.Wanted.the-variants as W
 use Rattle.globe.specs.declared.source.Source.the-variants as S
 use Rattle.promises.specs.Demands.{HasElements, HasRow}
@@ -40,31 +43,32 @@ same o o′ e = cc
 
 module _ (s : Pool) (n : ℕ) (epoch : Float) (o : Orientation) where
   -- the answer where nothing is wrong
-  value : ℕ → Orientation
-  value k = evaluated (elements s n) epoch (angles s n k) (list s n W.NutPrecRa) (list s n W.NutPrecDec) (list s n W.NutPrecPm)
+  value : (k d : ℕ) → Orientation
+  value k d = evaluated (elements s n) epoch d (angles s n k) (list s n W.NutPrecRa) (list s n W.NutPrecDec) (list s n W.NutPrecPm)
 
-  by-count : (k : ℕ) (a b : Bool) → allNumeric s n k ≡ a → wellCounted s n k ≡ b → inReach epoch ≡ true → systemOf n ≡ Of k → noneThere s n ≡ false
-      → complete s n k ≡ true
-      → (if a then (if b then Given (value k) else Refused Q.WrongCount) else Refused Q.MixedKind) ≡ Given o → HasElements s n epoch o
+  by-count : (k d : ℕ) (a b : Bool) → allNumeric s n k ≡ a → wellCounted s n k d ≡ b → inReach epoch ≡ true → systemOf n ≡ Of k → noneThere s n ≡ false
+      → complete s n k ≡ true → degree s n k ≡ D.Of d
+      → (if a then (if b then Given (value k d) else Refused Q.WrongCount) else Refused Q.MixedKind) ≡ Given o → HasElements s n epoch o
   unfolding value
-  by-count k true true x w r l p c e =
-      record { reach = r; system = k; legal = l; some = p; whole = c; kinds = x; counts = w; evaluation = same _ o e }
-  by-count k true false x w r l p c e = never e
-  by-count k false b x w r l p c e = never e
+  by-count k d true true x w r l p c g e =
+      record { reach = r; system = k; legal = l; some = p; whole = c; degree = d; announced = g; kinds = x; counts = w; evaluation = same _ o e }
+  by-count k d true false x w r l p c g e = never e
+  by-count k d false b x w r l p c g e = never e
+
+  by-degree : (k : ℕ) (g : Degree) → degree s n k ≡ g → inReach epoch ≡ true → systemOf n ≡ Of k → noneThere s n ≡ false → complete s n k ≡ true
+      → byDegree s n k epoch g ≡ Given o → HasElements s n epoch o
+  unfolding value
+  by-degree k (D.Of d) g r l p c e = by-count k d (allNumeric s n k) (wellCounted s n k d) refl refl r l p c g e
+  by-degree k D.Bad g r l p c e = never e
 
   by-presence : (k : ℕ) (b c : Bool) → noneThere s n ≡ b → complete s n k ≡ c → inReach epoch ≡ true → systemOf n ≡ Of k
-      → (if b then Refused Q.UnknownBody
-      else (if c
-      then (if allNumeric s n k then (if wellCounted s n k then Given (value k) else Refused Q.WrongCount) else Refused Q.MixedKind)
-      else Refused Q.Incomplete))
-      ≡ Given o
+      → (if b then Refused Q.UnknownBody else (if c then byDegree s n k epoch (degree s n k) else Refused Q.Incomplete)) ≡ Given o
       → HasElements s n epoch o
   by-presence k true c p q r l e = never e
-  by-presence k false true p q r l e = by-count k (allNumeric s n k) (wellCounted s n k) refl refl r l p q e
+  by-presence k false true p q r l e = by-degree k (degree s n k) refl r l p q e
   by-presence k false false p q r l e = never e
 
   by-code : (x : System) → systemOf n ≡ x → inReach epoch ≡ true → byElements s n epoch x ≡ Given o → HasElements s n epoch o
-  unfolding value
   by-code (Of k) l r e = by-presence k (noneThere s n) (complete s n k) refl refl r l e
   by-code Nowhere l r e = never e
 
@@ -78,7 +82,7 @@ module _ (s : Pool) (n : ℕ) (epoch : Float) (o : Orientation) where
 
   given-elements : HasElements s n epoch o → orientationFrom s n epoch ≡ Given o
   unfolding orientationFrom
-  given-elements h = rw (h .reach, h .legal, h .some, h .whole, h .kinds, h .counts, h .evaluation) refl
+  given-elements h = rw (h .reach, h .legal, h .some, h .whole, h .announced, h .kinds, h .counts, h .evaluation) refl
 
 module _ (m : List ℕ) (n : ℕ) (epoch : Float) (o : Orientation) where
   by-damage : (b : Bool) → sound m ≡ b → (if b then orientationFrom (decode m) n epoch else Refused Q.DamagedPool) ≡ Given o

@@ -1,17 +1,18 @@
 -- No evaluation overflows: the values of an undamaged pool are below 2^200 in size, and a body has at most 32 coefficients. Assumes nothing.
-use Prim.Native.Nat.{ℕ, zero, suc, _*_, _%_, _≤_, max}
+use Prim.Native.Nat.{ℕ, zero, suc, _+_, _%_, _≤_, max}
+use native.Mathlib.Nat.{zero-div}
 use native.Mathlib.Omega.{arith}
 use mathlib.Core.Path.{_≡_, refl, sym, ap, subst}
 use mathlib.Core.Bool.{Bool, true, false, _&&_, _||_}
 use mathlib.Core.List.{List, [], _∷_}
 use borrow.Author.Tests.{leb-true}
-use lib.Dec.{eqb, leb, lit<, lit≤}
+use lib.Dec.{eqb, leb, lit<}
 use lib.Ieee.{Float, nan, round}
 use lib.ListN.{length, getD}
 use Rattle.plain.specs.Choice.{if_then_else_}
 use Rattle.plain.specs.Doubles.{printed}
 use Rattle.plain.proofs.Bounded.{Under}
-use Rattle.rotation.specs.Elements.{Enough}
+use Rattle.rotation.specs.Elements.{LINEAR, CUBIC, GROUPS, groups, Enough}
 use Rattle.rotation.specs.Codes.{systemOf}
 use Rattle.rotation.specs.Table.{rowOf, neptuneAngle, neptuneRA, neptuneDEC, neptunePM}
 use Rattle.rotation.specs.Builtin.{neptunes}
@@ -38,7 +39,10 @@ use Rattle.variables.specs.Variables.{Datum, number, string, has, assigns, any,
 use Rattle.variables.specs.Found.{numbersAmong, doubles}
 use Rattle.variables.proofs.Presence.{absent-empty}
 use Rattle.wanted.specs.Names.{nameOf}
-use Rattle.wanted.specs.Elements.{there, list, ANGLES, polynomial, elements, fewValues, nutating, enoughAngles, wellCounted, angles}
+use Rattle.wanted.specs.Elements.{there, list, polynomial, elements, fewValues, nutating, enoughAngles, wellCounted, angles}
+use Rattle.degree.specs.Degree.{degree}
+use Rattle.degree.specs.declared.Degree.the-variants as D
+use Rattle.degree.proofs.Degrees.{degree-low}
 use Rattle.globe.specs.Orientation.{orientationReply}
 use Rattle.wanted.specs.declared.name.Wanted.{Wanted}
 use Rattle.wanted.specs.declared.name.Wanted.the-variants as W
@@ -114,84 +118,92 @@ small-polynomial xs f = record { c0 = getD-under xs 0 f .is; c1 = getD-under xs 
 small-values : (xs : List Float) → Each (Under 200) xs → SmallValues xs
 small-values xs f = record { each = λ i h. each-at (Under 200) xs i nan h f .is }
 
-record Counted (angles ra dec pm : List Float) : Type 0 where
-  few : length angles ≤ ANGLES
-  enough : Enough angles ra dec pm
+record Counted (degree : ℕ) (angles ra dec pm : List Float) : Type 0 where
+  few : groups degree (length angles) ≤ GROUPS
+  enough : Enough degree angles ra dec pm
 
-counted-there : (angles ra dec pm : List Float) → enoughAngles angles ra dec pm ≡ true → Counted angles ra dec pm
-counted-there angles ra dec pm e =
-    let l = length angles in
-    let most = 2 * max (length ra) (max (length dec) (length pm)) in
-    let a = both (eqb (l % 2) 0 && leb l ANGLES) (leb most l) e in
-    let m : most ≤ l = leb-true most l (a .1) in
-    record {
-      few = leb-true l ANGLES (both (eqb (l % 2) 0) (leb l ANGLES) (a .0) .1);
-      enough = record { forRA = omega arith; forDEC = omega arith; forPM = omega arith };
-    }
-
-module _ (s : Pool) (n k : ℕ) where
-  counted-absent : nutating s n ≡ false → Counted [] (list s n W.NutPrecRa) (list s n W.NutPrecDec) (list s n W.NutPrecPm)
-  counted-absent e =
-      let a = neither (there s n W.NutPrecRa || there s n W.NutPrecDec) (there s n W.NutPrecPm) e in
-      let b = neither (there s n W.NutPrecRa) (there s n W.NutPrecDec) (a .0) in
-      record { few = lit≤ tt; enough = record { forRA = none W.NutPrecRa (b .0); forDEC = none W.NutPrecDec (b .1); forPM = none W.NutPrecPm (a .1) } }
-    where
-      neither : (x y : Bool) → (x || y) ≡ false → (x ≡ false) × (y ≡ false)
-      neither true y e = true-false e
-      neither false y e = (refl, e)
-
-      none : (w : Wanted) → there s n w ≡ false → 2 * length (list s n w) ≤ 0
-      none w e = omega (arith, ap length (absent-none (nameOf n w) s e))
-
-  counted : wellCounted s n k ≡ true → Counted (angles s n k) (list s n W.NutPrecRa) (list s n W.NutPrecDec) (list s n W.NutPrecPm)
-  counted e = by (nutating s n) refl (both (fewValues (list s n W.PoleRa) && fewValues (list s n W.PoleDec) && fewValues (list s n W.Pm)) _ e .1)
-    where
-      by : (b : Bool) → nutating s n ≡ b
-          → (if b then enoughAngles (list s k W.NutPrecAngles) (list s n W.NutPrecRa) (list s n W.NutPrecDec) (list s n W.NutPrecPm) else true) ≡ true
-          → Counted (if b then list s k W.NutPrecAngles else []) (list s n W.NutPrecRa) (list s n W.NutPrecDec) (list s n W.NutPrecPm)
-      by true q h = counted-there (list s k W.NutPrecAngles) (list s n W.NutPrecRa) (list s n W.NutPrecDec) (list s n W.NutPrecPm) h
-      by false q h = counted-absent q
-
-  small-input : Each SmallStatement (program s) → wellCounted s n k ≡ true
-      → SmallInput (elements s n) (angles s n k) (list s n W.NutPrecRa) (list s n W.NutPrecDec) (list s n W.NutPrecPm)
-  small-input f e =
-      let c = counted e in
+module _ (degree : ℕ) (low : degree ≤ CUBIC) where
+  counted-there : (angles ra dec pm : List Float) → enoughAngles degree angles ra dec pm ≡ true → Counted degree angles ra dec pm
+  counted-there angles ra dec pm e =
+      let l = length angles in
+      let most = max (length ra) (max (length dec) (length pm)) in
+      let whole = eqb (l % (degree + 1)) 0 in
+      let a = both (whole && leb (groups degree l) GROUPS) (leb most (groups degree l)) e in
+      let m : most ≤ groups degree l = leb-true _ _ (a .1) in
       record {
-        poleRA = small-polynomial (list s n W.PoleRa) (under n W.PoleRa);
-        poleDEC = small-polynomial (list s n W.PoleDec) (under n W.PoleDec);
-        meridian = small-polynomial (list s n W.Pm) (under n W.Pm);
-        few = c .few;
-        enough = c .enough;
-        system = system (nutating s n);
-        forRA = small-values (list s n W.NutPrecRa) (under n W.NutPrecRa);
-        forDEC = small-values (list s n W.NutPrecDec) (under n W.NutPrecDec);
-        forPM = small-values (list s n W.NutPrecPm) (under n W.NutPrecPm);
+        few = leb-true _ _ (both whole (leb (groups degree l) GROUPS) (a .0) .1);
+        enough = record { low = low; forRA = omega arith; forDEC = omega arith; forPM = omega arith };
       }
-    where
-      under : (i : ℕ) (w : Wanted) → Each (Under 200) (list s i w)
-      under i w = doubles-under (nameOf i w) s f
 
-      system : (b : Bool) → SmallValues (if b then list s k W.NutPrecAngles else [])
-      system true = small-values (list s k W.NutPrecAngles) (under k W.NutPrecAngles)
-      system false = small-values [] tt
+  module _ (s : Pool) (n k : ℕ) where
+    counted-absent : nutating s n ≡ false → Counted degree [] (list s n W.NutPrecRa) (list s n W.NutPrecDec) (list s n W.NutPrecPm)
+    counted-absent e =
+        let a = neither (there s n W.NutPrecRa || there s n W.NutPrecDec) (there s n W.NutPrecPm) e in
+        let b = neither (there s n W.NutPrecRa) (there s n W.NutPrecDec) (a .0) in
+        record {
+          few = omega (arith, zero-div (degree + 1));
+          enough = record { low = low; forRA = none W.NutPrecRa (b .0); forDEC = none W.NutPrecDec (b .1); forPM = none W.NutPrecPm (a .1) };
+        }
+      where
+        neither : (x y : Bool) → (x || y) ≡ false → (x ≡ false) × (y ≡ false)
+        neither true y e = true-false e
+        neither false y e = (refl, e)
+
+        none : (w : Wanted) → there s n w ≡ false → length (list s n w) ≤ groups degree 0
+        none w e = omega (arith, ap length (absent-none (nameOf n w) s e))
+
+    counted : wellCounted s n k degree ≡ true → Counted degree (angles s n k) (list s n W.NutPrecRa) (list s n W.NutPrecDec) (list s n W.NutPrecPm)
+    counted e = by (nutating s n) refl (both (fewValues (list s n W.PoleRa) && fewValues (list s n W.PoleDec) && fewValues (list s n W.Pm)) _ e .1)
+      where
+        by : (b : Bool) → nutating s n ≡ b
+            → (if b then enoughAngles degree (list s k W.NutPrecAngles) (list s n W.NutPrecRa) (list s n W.NutPrecDec) (list s n W.NutPrecPm) else true) ≡ true
+            → Counted degree (if b then list s k W.NutPrecAngles else []) (list s n W.NutPrecRa) (list s n W.NutPrecDec) (list s n W.NutPrecPm)
+        by true q h = counted-there (list s k W.NutPrecAngles) (list s n W.NutPrecRa) (list s n W.NutPrecDec) (list s n W.NutPrecPm) h
+        by false q h = counted-absent q
+
+small-input : (s : Pool) (n k d : ℕ) → Each SmallStatement (program s) → degree s n k ≡ D.Of d → wellCounted s n k d ≡ true
+    → SmallInput (elements s n) d (angles s n k) (list s n W.NutPrecRa) (list s n W.NutPrecDec) (list s n W.NutPrecPm)
+small-input s n k d f g e =
+    let c = counted d (degree-low (nutating s n) s k refl .cubic d g) s n k e in
+    record {
+      poleRA = small-polynomial (list s n W.PoleRa) (under n W.PoleRa);
+      poleDEC = small-polynomial (list s n W.PoleDec) (under n W.PoleDec);
+      meridian = small-polynomial (list s n W.Pm) (under n W.Pm);
+      few = c .few;
+      enough = c .enough;
+      system = system (nutating s n);
+      forRA = small-values (list s n W.NutPrecRa) (under n W.NutPrecRa);
+      forDEC = small-values (list s n W.NutPrecDec) (under n W.NutPrecDec);
+      forPM = small-values (list s n W.NutPrecPm) (under n W.NutPrecPm);
+    }
+  where
+    under : (i : ℕ) (w : Wanted) → Each (Under 200) (list s i w)
+    under i w = doubles-under (nameOf i w) s f
+
+    system : (b : Bool) → SmallValues (if b then list s k W.NutPrecAngles else [])
+    system true = small-values (list s k W.NutPrecAngles) (under k W.NutPrecAngles)
+    system false = small-values [] tt
 
 -- ---- every orientation
 
 module _ (m : List ℕ) (n : ℕ) (epoch : Float) (o : Orientation) where
-  pool-steps : (k : ℕ) → orientationReply S.Pool m n epoch ≡ O.Given o → systemOf n ≡ Of k
-      → NeverOverflows (elements (decode m) n) epoch (angles (decode m) n k)
+  pool-steps : (k d : ℕ) → orientationReply S.Pool m n epoch ≡ O.Given o → systemOf n ≡ Of k → degree (decode m) n k ≡ D.Of d
+      → NeverOverflows (elements (decode m) n) epoch d (angles (decode m) n k)
       (list (decode m) n W.NutPrecRa) (list (decode m) n W.NutPrecDec) (list (decode m) n W.NutPrecPm)
-  pool-steps k e l =
+  pool-steps k d e l g =
       let h = given-exactly m n epoch o .0 e in
       let fair = decode-legal m (sound-of m (h .0)) .statements in
       let legal = h .1 .legal in
       let same : h .1 .system ≡ k = cc in
-      never-overflows _ epoch _ _ _ _ (h .1 .reach)
-      (small-input (decode m) n k (each-weaken Fair SmallStatement (λ x g. g .values) (program (decode m)) fair)
-      (subst (λ (i : ℕ). wellCounted (decode m) n i ≡ true) same (h .1 .counts)))
+      let told = subst (λ (i : ℕ). degree (decode m) n i ≡ D.Of (h .1 .degree)) same (h .1 .announced) in
+      let alike : h .1 .degree ≡ d = cc in
+      let counts = subst (λ (i : ℕ). wellCounted (decode m) n i (h .1 .degree) ≡ true) same (h .1 .counts) in
+      never-overflows _ epoch d _ _ _ _ (h .1 .reach)
+      (small-input (decode m) n k d (each-weaken Fair SmallStatement (λ x g. g .values) (program (decode m)) fair) g
+      (subst (λ (i : ℕ). wellCounted (decode m) n k i ≡ true) alike counts))
 
   table-steps : (row : Elements) → orientationReply S.Builtin m n epoch ≡ O.Given o → rowOf n ≡ Held row
-      → NeverOverflows row epoch (neptunes n neptuneAngle) (neptunes n neptuneRA) (neptunes n neptuneDEC) (neptunes n neptunePM)
+      → NeverOverflows row epoch LINEAR (neptunes n neptuneAngle) (neptunes n neptuneRA) (neptunes n neptuneDEC) (neptunes n neptunePM)
   table-steps row e l = row-never-overflows n epoch row (builtin-exactly m n epoch o .0 e .reach) l
 
 finite : (source : Source) (m : List ℕ) (n : ℕ) (epoch : Float) (o : Orientation) → orientationReply source m n epoch ≡ O.Given o → Finite o
@@ -199,14 +211,14 @@ unfolding orientationReply
 finite S.Builtin m n epoch o e = builtin-finite n epoch o e
 finite S.Pool m n epoch o e =
     let h = given-exactly m n epoch o .0 e .1 in
-    subst Finite (sym (h .evaluation)) (pool-steps m n epoch o (h .system) e (h .legal) .answer)
+    subst Finite (sym (h .evaluation)) (pool-steps m n epoch o (h .system) (h .degree) e (h .legal) (h .announced) .answer)
 
 pub no-overflow : NoOverflow library
 unfolding asked
 no-overflow =
     record {
       answers = λ source m n epoch o e. finite source m n epoch o (same e);
-      pools = λ m n k epoch o e l. pool-steps m n epoch o k (same e) l;
+      pools = λ m n k d epoch o e l g. pool-steps m n epoch o k d (same e) l g;
       tables = λ m n epoch o row e l. table-steps m n epoch o row (same e) l;
     }
   where

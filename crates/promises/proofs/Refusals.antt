@@ -51,6 +51,7 @@ refused-number Q.NoOperator = refl
 refused-number Q.BadValue = refl
 refused-number Q.OpenList = refl
 refused-number Q.RestOfLine = refl
+refused-number Q.BadDegree = refl
 refused-number Q.BadRadius = refl
 
 -- a call that changes the pool is accepted exactly when it is done

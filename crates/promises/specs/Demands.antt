@@ -12,6 +12,7 @@ use Rattle.refusal.specs.Numbers.{numberOf}
 use Rattle.refusal.specs.declared.Refusal.{Refusal}
 use Rattle.rotation.specs.Epochs.{inReach}
 use Rattle.rotation.specs.Codes.{systemOf}
+use Rattle.rotation.specs.Elements.{LINEAR}
 use Rattle.rotation.specs.Evaluation.{evaluated}
 use Rattle.rotation.specs.Table.{rowOf, neptuneAngle, neptuneRA, neptuneDEC, neptunePM, sizeOf}
 use Rattle.rotation.specs.Builtin.{neptunes, rowEvaluated}
@@ -48,6 +49,8 @@ use Rattle.pool.specs.Totals.{Totals}
 use Rattle.pool.specs.declared.reply.Reply.the-variants.{Refused}
 use Rattle.pool.specs.declared.reply.Fetched.{Fetched}
 use Rattle.wanted.specs.Elements.{there, numeric, noneThere, complete, allNumeric, wellCounted, elements, angles, list}
+use Rattle.degree.specs.Degree as G
+use Rattle.degree.specs.declared.Degree.the-variants as D
 use Rattle.globe.specs.Orientation.{Orients}
 use Rattle.globe.specs.Radii.{positive, allPositive, Measures}
 use Rattle.globe.specs.declared.source.Source.{Source}
@@ -175,10 +178,12 @@ pub record HasElements (s : Pool) (n : ℕ) (epoch : Float) (o : Orientation) : 
   pub legal : systemOf n ≡ Of system
   pub some : noneThere s n ≡ false
   pub whole : complete s n system ≡ true
+  pub degree : ℕ
+  pub announced : G.degree s n system ≡ D.Of degree
   pub kinds : allNumeric s n system ≡ true
-  pub counts : wellCounted s n system ≡ true
+  pub counts : wellCounted s n system degree ≡ true
   pub evaluation :
-      o ≡ evaluated (elements s n) epoch (angles s n system) (list s n W.NutPrecRa) (list s n W.NutPrecDec) (list s n W.NutPrecPm)
+      o ≡ evaluated (elements s n) epoch degree (angles s n system) (list s n W.NutPrecRa) (list s n W.NutPrecDec) (list s n W.NutPrecPm)
 
 -- the same of the built-in table: it has a row for the code
 pub record HasRow (n : ℕ) (epoch : Float) (o : Orientation) : Type 0 where
@@ -222,14 +227,14 @@ pub record NoOverflow (b : Build) : Type 0 where
       (source : Source) (m : List ℕ) (n : ℕ) (epoch : Float) (o : Orientation)
       → b .answer (orientation source n epoch) m ≡ oriented (O.Given o) → Finite o
   pub pools :
-      (m : List ℕ) (n system : ℕ) (epoch : Float) (o : Orientation)
-      → b .answer (orientation S.Pool n epoch) m ≡ oriented (O.Given o) → systemOf n ≡ Of system
-      → NeverOverflows (elements (decode m) n) epoch (angles (decode m) n system)
+      (m : List ℕ) (n system degree : ℕ) (epoch : Float) (o : Orientation)
+      → b .answer (orientation S.Pool n epoch) m ≡ oriented (O.Given o) → systemOf n ≡ Of system → G.degree (decode m) n system ≡ D.Of degree
+      → NeverOverflows (elements (decode m) n) epoch degree (angles (decode m) n system)
       (list (decode m) n W.NutPrecRa) (list (decode m) n W.NutPrecDec) (list (decode m) n W.NutPrecPm)
   pub tables :
       (m : List ℕ) (n : ℕ) (epoch : Float) (o : Orientation) (row : Elements)
       → b .answer (orientation S.Builtin n epoch) m ≡ oriented (O.Given o) → rowOf n ≡ Held row
-      → NeverOverflows row epoch (neptunes n neptuneAngle) (neptunes n neptuneRA) (neptunes n neptuneDEC) (neptunes n neptunePM)
+      → NeverOverflows row epoch LINEAR (neptunes n neptuneAngle) (neptunes n neptuneRA) (neptunes n neptuneDEC) (neptunes n neptunePM)
 
 -- "A zero in a text made a flat globe": every radius that is given, by either source, is greater than 0, and no infinity
 
@@ -248,8 +253,10 @@ pub record OfPool (s : Pool) (n : ℕ) (epoch : Float) (o : Orientation) : Type 
   pub system : ℕ
   pub legal : systemOf n ≡ Of system
   pub whole : complete s n system ≡ true
+  pub degree : ℕ
+  pub announced : G.degree s n system ≡ D.Of degree
   pub evaluation :
-      o ≡ evaluated (elements s n) epoch (angles s n system) (list s n W.NutPrecRa) (list s n W.NutPrecDec) (list s n W.NutPrecPm)
+      o ≡ evaluated (elements s n) epoch degree (angles s n system) (list s n W.NutPrecRa) (list s n W.NutPrecDec) (list s n W.NutPrecPm)
 
 -- the table has a row for it, and the orientation is that of the row
 pub record OfTable (n : ℕ) (epoch : Float) (o : Orientation) : Type 0 where

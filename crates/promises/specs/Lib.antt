@@ -5,6 +5,7 @@ pub mod Calls
 pub mod Histories
 pub mod Demands
 pub mod Order
+pub mod Before
 pub mod Renumbered
 pub mod Sentence
 pub mod Demand3

@@ -1,7 +1,7 @@
 -- "Order: 15 first; then by call 1, 2, the first faulty line (in it 3, then 4, then whichever of 5 and 6 starts at the earlier byte), 7; 8;
 -- 13, 14; 9, 10, 11, 12. Fifteen is not checked where the built-in source is named." "16 MIXED KIND .. stands just before 12"; "both fetches
--- ask 13, 16, 14 in turn"; "24 BAD RADIUS, for radii only, stands after 12". Each refusal is given where its condition holds and none does that
--- is asked before it. Definitions only.
+-- ask 13, 16, 14 in turn"; "23 BAD DEGREE .. stands after 11 and before 16"; "24 BAD RADIUS, for radii only, stands after 12". Each refusal is
+-- given where its condition holds and none does that is asked before it. Definitions only.
 use Prim.Native.Nat.{ℕ, _≤_, _<_}
 use mathlib.Core.Path.{_≡_}
 use mathlib.Core.Bool.{Bool, true, false}
@@ -31,6 +31,8 @@ use Rattle.variables.specs.Spelled.{stringOf}
 use Rattle.pool.specs.Load.{held, textOf, with}
 use Rattle.wanted.specs.Elements.{there, numeric, noneThere, complete, allNumeric, wellCounted, list}
 use Rattle.wanted.specs.declared.name.Wanted.the-variants as W
+use Rattle.degree.specs.Degree.{degree}
+use Rattle.degree.specs.declared.Degree.the-variants as D
 use Rattle.globe.specs.Radii.{axes, allPositive}
 use Rattle.globe.specs.declared.source.Source.the-variants as S
 use Rattle.promises.specs.Calls as C
@@ -91,12 +93,15 @@ pub record OrientationOrder (b : Build) (n : ℕ) (epoch : Float) (m : List ℕ)
   pub incomplete :
       (k : ℕ) → inReach epoch ≡ true → systemOf n ≡ Of k → noneThere (decode m) n ≡ false → complete (decode m) n k ≡ false
       → Refuses b (C.orientation S.Pool n epoch) m Q.Incomplete
-  pub mixedKind :
+  pub badDegree :
       (k : ℕ) → inReach epoch ≡ true → systemOf n ≡ Of k → noneThere (decode m) n ≡ false → complete (decode m) n k ≡ true
-      → allNumeric (decode m) n k ≡ false → Refuses b (C.orientation S.Pool n epoch) m Q.MixedKind
+      → degree (decode m) n k ≡ D.Bad → Refuses b (C.orientation S.Pool n epoch) m Q.BadDegree
+  pub mixedKind :
+      (k d : ℕ) → inReach epoch ≡ true → systemOf n ≡ Of k → noneThere (decode m) n ≡ false → complete (decode m) n k ≡ true
+      → degree (decode m) n k ≡ D.Of d → allNumeric (decode m) n k ≡ false → Refuses b (C.orientation S.Pool n epoch) m Q.MixedKind
   pub wrongCount :
-      (k : ℕ) → inReach epoch ≡ true → systemOf n ≡ Of k → noneThere (decode m) n ≡ false
-      → complete (decode m) n k ≡ true → allNumeric (decode m) n k ≡ true → wellCounted (decode m) n k ≡ false
+      (k d : ℕ) → inReach epoch ≡ true → systemOf n ≡ Of k → noneThere (decode m) n ≡ false
+      → complete (decode m) n k ≡ true → degree (decode m) n k ≡ D.Of d → allNumeric (decode m) n k ≡ true → wellCounted (decode m) n k d ≡ false
       → Refuses b (C.orientation S.Pool n epoch) m Q.WrongCount
 
 pub record RadiiOrder (b : Build) (n : ℕ) (m : List ℕ) : Type 0 where

@@ -90,9 +90,10 @@ pub record Blends (b : Build) : Type 0 where
   pub row : Elements
   pub listed : rowOf n ≡ Held row
   pub system : ℕ
+  pub degree : ℕ
   pub given : Orientation
   pub evaluation :
-      given ≡ evaluated (blended (decode m) n row) epoch (angles (decode m) n system)
+      given ≡ evaluated (blended (decode m) n row) epoch degree (angles (decode m) n system)
       (list (decode m) n W.NutPrecRa) (list (decode m) n W.NutPrecDec) (list (decode m) n W.NutPrecPm)
   pub gives : b .answer (orientation S.Pool n epoch) m ≡ oriented (O.Given given)
 
