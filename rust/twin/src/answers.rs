@@ -1,10 +1,10 @@
 //! Orientation and radii from a pool: document 01, "Elements wanted", and of document
-//! 02 the 16 of K2 and the 24 of K10.
+//! 02 the 16 of K2, the degree of K8 and the 24 of K10.
 
 use std::io::Write;
 
 use crate::layout::Held;
-use crate::limits::{ANGLE_VALUES, COEFFICIENTS, NAME_BYTES, POLYNOMIAL_VALUES};
+use crate::limits::{ANGLES, ANGLE_VALUES, HIGHEST_DEGREE, NAME_BYTES, POLYNOMIAL_VALUES};
 use crate::refusal::Refusal;
 use crate::rotation::{check_epoch, evaluate, Elements, Nutation, Orientation};
 use crate::variable::Variable;
@@ -12,8 +12,12 @@ use crate::variable::Variable;
 /// The values of BODYn_RADII.
 const RADII_VALUES: usize = 3;
 
+/// The degree of angles that nothing is said of, and the lowest.
+const LINEAR: usize = 1;
+
 /// The orientation of a body by the variables of a pool.
-/// Whether variables are there is asked of all of them before any kind, and kinds before any count.
+/// Whether variables are there is asked of all of them before the degree, the degree before any
+/// other's kind, and kinds before any count.
 pub fn orientation(pool: &[u64], code: u32, epoch: f64) -> Result<Orientation, Refusal> {
     let held = Held::of(pool)?;
     check_epoch(epoch)?;
@@ -28,10 +32,11 @@ pub fn orientation(pool: &[u64], code: u32, epoch: f64) -> Result<Orientation, R
     };
     wanted.check_angles()?;
     let mut angle_room = [0.0; ANGLE_VALUES];
-    let mut rooms = [[0.0; COEFFICIENTS]; 3];
+    let mut rooms = [[0.0; ANGLES]; 3];
     let [ra_room, dec_room, pm_room] = &mut rooms;
     let [ra, dec, pm] = &wanted.terms;
     let nutation = Nutation {
+        degree: wanted.degree,
         angles: values(&held, &wanted.angles, &mut angle_room),
         ra: values(&held, ra, ra_room),
         dec: values(&held, dec, dec_room),
@@ -41,15 +46,16 @@ pub fn orientation(pool: &[u64], code: u32, epoch: f64) -> Result<Orientation, R
 }
 
 /// The variables that an orientation meets: those of RA, DEC and PM, the terms that are there, and
-/// the angles if any term is.
+/// if any term is the angles, which are of a degree.
 struct Wanted {
     elements: [Variable; 3],
     terms: [Option<Variable>; 3],
     angles: Option<Variable>,
+    degree: usize,
 }
 
 impl Wanted {
-    /// What a body has of them, unless something is missing.
+    /// What a body has of them, unless something is missing or the degree is none.
     fn found(held: &Held, code: u32) -> Result<Wanted, Refusal> {
         let system = system(code).ok_or(Refusal::UnknownBody)?;
         let elements = ["POLE_RA", "POLE_DEC", "PM"].map(|word| body_variable(held, code, word));
@@ -60,16 +66,18 @@ impl Wanted {
         };
         let terms = ["NUT_PREC_RA", "NUT_PREC_DEC", "NUT_PREC_PM"]
             .map(|word| body_variable(held, code, word));
-        let angles = if terms.iter().any(Option::is_some) {
+        let (angles, degree) = if terms.iter().any(Option::is_some) {
             let angles = body_variable(held, system, "NUT_PREC_ANGLES");
-            Some(angles.ok_or(Refusal::Incomplete)?)
+            let angles = angles.ok_or(Refusal::Incomplete)?;
+            (Some(angles), degree(held, system)?)
         } else {
-            None
+            (None, LINEAR)
         };
         Ok(Wanted {
             elements,
             terms,
             angles,
+            degree,
         })
     }
 
@@ -78,18 +86,39 @@ impl Wanted {
         self.elements.iter().chain(terms).chain(&self.angles)
     }
 
-    /// Whether the angles that are there are pairs, not too many, and enough for the terms.
+    /// Whether the angles that are there are whole groups, not too many, and enough for the terms.
     fn check_angles(&self) -> Result<(), Refusal> {
         let Some(angles) = &self.angles else {
             return Ok(());
         };
-        let count = angles.count;
-        let longest = self.terms.iter().flatten().map(|term| term.count).max();
-        if count % 2 != 0 || count > ANGLE_VALUES || count < 2 * longest.unwrap_or(0) {
+        let (group, longest) = (self.degree + 1, self.longest());
+        let (groups, rest) = (angles.count / group, angles.count % group);
+        if rest != 0 || groups > ANGLES || groups < longest {
             return Err(Refusal::WrongCount);
         }
         Ok(())
     }
+
+    /// The number of coefficients that the longest of the terms has.
+    fn longest(&self) -> usize {
+        let counts = self.terms.iter().flatten().map(|term| term.count);
+        counts.max().unwrap_or(0)
+    }
+}
+
+/// The degree of a system's angles: what its one value is as a double.
+fn degree(held: &Held, system: u32) -> Result<usize, Refusal> {
+    let Some(variable) = body_variable(held, system, "MAX_PHASE_DEGREE") else {
+        return Ok(LINEAR);
+    };
+    if variable.has_strings || variable.count != 1 {
+        return Err(Refusal::BadDegree);
+    }
+    let mut value = [0.0];
+    variable.copy_numbers(held, &mut value);
+    (LINEAR..=HIGHEST_DEGREE)
+        .find(|degree| value == [*degree as f64])
+        .ok_or(Refusal::BadDegree)
 }
 
 /// The radii of a body by the variables of a pool.

@@ -74,6 +74,7 @@ fn row(code: u32) -> Option<Row> {
         ),
         899 => Row {
             nutation: Nutation {
+                degree: 1,
                 angles: &[357.85, 52.316],
                 ra: &[0.70],
                 dec: &[-0.51],

@@ -1,5 +1,5 @@
 //! The limits of document 01, each under its name; document 02 has the one of lines in K1,
-//! those of strings in K2 and that of whole numbers in K4.
+//! those of strings in K2, that of whole numbers in K4 and those of angles in K8.
 
 /// The bytes of a text that can be loaded.
 pub const TEXT_BYTES: usize = 65_536;
@@ -30,8 +30,12 @@ pub const STRING_ROOM: usize = 8_192;
 /// Held values are below 2 to this power in size.
 pub const VALUE_EXPONENT: u64 = 200;
 
-/// The values of a pole or meridian variable, of the angles, and of one list of coefficients:
-/// two values an angle, one coefficient an angle.
+/// The values of a pole or meridian variable.
 pub const POLYNOMIAL_VALUES: usize = 3;
-pub const ANGLE_VALUES: usize = 64;
-pub const COEFFICIENTS: usize = ANGLE_VALUES / 2;
+
+/// The angles of a system, which are as many as the coefficients of one list may be.
+pub const ANGLES: usize = 32;
+
+/// The highest degree of a system's angles, and the values that the angles have then.
+pub const HIGHEST_DEGREE: usize = 3;
+pub const ANGLE_VALUES: usize = ANGLES * (HIGHEST_DEGREE + 1);

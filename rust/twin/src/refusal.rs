@@ -1,4 +1,4 @@
-//! The refusals and their numbers: document 01, "Refusal numbers", and K2, K3 and K10 of document 02.
+//! The refusals and their numbers: document 01, "Refusal numbers", and K2, K3, K8 and K10 of document 02.
 
 /// Why a call is refused.
 #[derive(Clone, Copy, Debug, PartialEq, Eq)]
@@ -23,6 +23,7 @@ pub enum Refusal {
     BadValue,
     OpenList,
     RestOfLine,
+    BadDegree,
     BadRadius,
 }
 
@@ -50,6 +51,7 @@ impl Refusal {
             Refusal::BadValue => 19,
             Refusal::OpenList => 20,
             Refusal::RestOfLine => 21,
+            Refusal::BadDegree => 23,
             Refusal::BadRadius => 24,
         }
     }

@@ -1,4 +1,5 @@
-//! From elements and an epoch to an orientation: document 01, "Evaluation" and "Matrix".
+//! From elements and an epoch to an orientation: document 01, "Evaluation" and "Matrix", and the
+//! angles of K8 of document 02.
 
 use crate::angle::{sine_cosine, wrap};
 use crate::refusal::Refusal;
@@ -26,10 +27,12 @@ pub struct Elements {
     pub pm: [f64; 3],
 }
 
-/// Periodic terms: angles as pairs of constant and rate per century, and for each of pole and
-/// meridian as many coefficients as it has. There is an angle for every coefficient.
+/// Periodic terms: angles as groups of constant, rate per century and so on to the term of their
+/// degree, and for each of pole and meridian as many coefficients as it has. There is an angle for
+/// every coefficient.
 #[derive(Clone, Copy, Debug, PartialEq)]
 pub struct Nutation<'a> {
+    pub degree: usize,
     pub angles: &'a [f64],
     pub ra: &'a [f64],
     pub dec: &'a [f64],
@@ -39,6 +42,7 @@ pub struct Nutation<'a> {
 impl Nutation<'_> {
     /// No periodic term at all.
     pub const NONE: Nutation<'static> = Nutation {
+        degree: 1,
         angles: &[],
         ra: &[],
         dec: &[],
@@ -94,9 +98,9 @@ pub fn evaluate(elements: &Elements, nutation: &Nutation, epoch: f64) -> Orienta
     let mut ra = at_century(&elements.ra, centuries);
     let mut dec = at_century(&elements.dec, centuries);
     let mut w = at_day(&elements.pm, days);
-    let pairs = nutation.angles.chunks_exact(2);
-    for (i, pair) in pairs.take(nutation.terms()).enumerate() {
-        let (sine, cosine) = sine_cosine(pair[0] + centuries.0 * pair[1]);
+    let groups = nutation.angles.chunks_exact(nutation.degree + 1);
+    for (i, group) in groups.take(nutation.terms()).enumerate() {
+        let (sine, cosine) = sine_cosine(angle(group, centuries));
         if let Some(coefficient) = nutation.ra.get(i) {
             ra += coefficient * sine;
         }
@@ -113,6 +117,12 @@ pub fn evaluate(elements: &Elements, nutation: &Nutation, epoch: f64) -> Orienta
 /// The value of a polynomial of the pole.
 fn at_century(c: &[f64; 3], Centuries(t): Centuries) -> f64 {
     c[0] + t * (c[1] + t * c[2])
+}
+
+/// The value of an angle, from its highest coefficient inward.
+fn angle(group: &[f64], Centuries(t): Centuries) -> f64 {
+    let inward = group.iter().copied().rev();
+    inward.reduce(|inner, c| c + t * inner).unwrap_or(0.0)
 }
 
 /// The value of the meridian's polynomial.

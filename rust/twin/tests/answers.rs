@@ -224,6 +224,7 @@ fn terms_over_several_statements() {
         pm: [3.0, 0.0, 0.0],
     };
     let nutation = Nutation {
+        degree: 1,
         angles: &[30.0, 1.0, 60.0, 2.0],
         ra: &[1.0, -2.0],
         dec: &[],

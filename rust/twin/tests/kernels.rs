@@ -1,5 +1,6 @@
 //! The kernels: what the source documents give as a text is what the built-in source has.
 
+use twin::angle::{sine_cosine, wrap};
 use twin::answers::{orientation, radii};
 use twin::builtin::{builtin_orientation, builtin_radii};
 use twin::layout::WORDS;
@@ -10,6 +11,7 @@ const PLANETS: &[u8] = include_bytes!("../../../examples/kernels/planets.tpc");
 const RADII: &[u8] = include_bytes!("../../../examples/kernels/radii.tpc");
 const MOON: &[u8] = include_bytes!("../../../examples/kernels/moon.tpc");
 const MARS_MOONS: &[u8] = include_bytes!("../../../examples/kernels/mars-moons.tpc");
+const MARS_MOONS_SQUARE: &[u8] = include_bytes!("../../../examples/kernels/mars-moons-square.tpc");
 const TRITON: &[u8] = include_bytes!("../../../examples/kernels/triton.tpc");
 const EXAMPLE: &[u8] = include_bytes!("../../../examples/kernels/mars-example.tpc");
 const EXAMPLE_SHORT: &[u8] = include_bytes!("../../../examples/kernels/mars-example-short.tpc");
@@ -98,6 +100,48 @@ fn moons_turn_too() {
     }
     assert_eq!(radii(&pool, 301), Ok([1737.4; 3]));
     assert_eq!(radii(&pool, 801), Err(Refusal::UnknownBody));
+}
+
+/// Phobos' second angle with a square term.
+fn m2(t: f64, square: f64) -> f64 {
+    192.93 + t * (41215163.19675 + t * square)
+}
+
+#[test]
+fn phobos_differs_by_the_sine_of_its_square_term() {
+    let cut = pool_of(&[MARS_MOONS]);
+    let square = pool_of(&[MARS_MOONS_SQUARE]);
+    for epoch in EPOCHS {
+        let [before, after] = [&cut, &square].map(|pool| orientation(pool, 401, epoch).unwrap());
+        let days = epoch / 86400.0;
+        let t = days / 36525.0;
+        let sine = |angle| sine_cosine(angle).0;
+
+        let term = -0.78 * (sine(m2(t, 8.864)) - sine(m2(t, 0.0)));
+        let difference = wrap(after.w - before.w + 180.0) - 180.0;
+        assert!((difference - term).abs() < 1e-5, "{difference} {term}");
+        assert_eq!(term.abs() > 1e-4, epoch.abs() > 1.0, "{term}");
+
+        let turned = 35.06 + days * (1128.8445850 + days * 6.6443009930565e-9);
+        let w = (turned + -1.42 * sine(169.51 + t * -15916.2801)) + -0.78 * sine(m2(t, 8.864));
+        assert_eq!(after.w.to_bits(), wrap(w).to_bits());
+        assert_eq!((after.ra, after.dec), (before.ra, before.dec));
+        assert_eq!(
+            orientation(&square, 402, epoch),
+            orientation(&cut, 402, epoch)
+        );
+    }
+    assert_eq!(radii(&square, 401), radii(&cut, 401));
+}
+
+#[test]
+fn a_degree_stays_when_only_the_angles_are_replaced() {
+    let pool = pool_of(&[MARS_MOONS_SQUARE, MARS_MOONS]);
+    assert_eq!(orientation(&pool, 401, 0.0), Err(Refusal::WrongCount));
+    let said = b"\\begindata\nBODY4_MAX_PHASE_DEGREE = 1";
+    let pool = pool_of(&[MARS_MOONS_SQUARE, MARS_MOONS, said]);
+    let cut = pool_of(&[MARS_MOONS]);
+    assert_eq!(orientation(&pool, 401, 1e9), orientation(&cut, 401, 1e9));
 }
 
 #[test]

@@ -47,7 +47,7 @@ const FAULTY: [&str; 7] = [
     "X",
     "X = 1 2",
 ];
-const WORDS_OF_A_BODY: [&str; 8] = [
+const WORDS_OF_A_BODY: [&str; 9] = [
     "POLE_RA",
     "POLE_DEC",
     "PM",
@@ -55,6 +55,7 @@ const WORDS_OF_A_BODY: [&str; 8] = [
     "NUT_PREC_DEC",
     "NUT_PREC_PM",
     "NUT_PREC_ANGLES",
+    "MAX_PHASE_DEGREE",
     "RADII",
 ];
 
@@ -73,7 +74,7 @@ fn a_pool_answers_as_its_texts_do() {
     }
     println!("answers by number: {met:?}");
     for number in [
-        0, 1, 2, 6, 7, 8, 9, 10, 11, 12, 13, 14, 16, 17, 18, 19, 20, 21, 24,
+        0, 1, 2, 6, 7, 8, 9, 10, 11, 12, 13, 14, 16, 17, 18, 19, 20, 21, 23, 24,
     ] {
         assert!(met[number] > 0, "{number} is never met");
     }
@@ -291,6 +292,11 @@ impl Model {
             return Err(Refusal::Incomplete);
         }
         let angles = angles.filter(|_| wants_angles);
+        let degree = if wants_angles {
+            degree_of(self.body(system, "MAX_PHASE_DEGREE"))?
+        } else {
+            1
+        };
         let all = elements.iter().chain(&terms).chain([&angles]).flatten();
         for values in all {
             numbers_of(values)?;
@@ -299,7 +305,9 @@ impl Model {
         let terms = terms.map(numbers_or_none);
         let angles = numbers_or_none(angles);
         let longest = terms.iter().map(Vec::len).max().unwrap_or(0);
-        let wrong_angles = angles.len() % 2 == 1 || angles.len() > 64 || angles.len() < 2 * longest;
+        let group = degree + 1;
+        let wrong_angles =
+            angles.len() % group > 0 || angles.len() > 32 * group || angles.len() < longest * group;
         if [&ra, &dec, &pm].iter().any(|values| values.len() > 3) || (wants_angles && wrong_angles)
         {
             return Err(Refusal::WrongCount);
@@ -310,6 +318,7 @@ impl Model {
             pm: padded(&pm),
         };
         let nutation = Nutation {
+            degree,
             angles: &angles,
             ra: &terms[0],
             dec: &terms[1],
@@ -348,6 +357,15 @@ fn numbers_of(values: &[Value]) -> Result<Vec<f64>, Refusal> {
         Value::String(_) => Err(Refusal::MixedKind),
     });
     numbers.collect()
+}
+
+/// The degree that a variable gives.
+fn degree_of(variable: Option<Vec<Value>>) -> Result<usize, Refusal> {
+    match variable.as_deref() {
+        None => Ok(1),
+        Some([Value::Number(number)]) if [1.0, 2.0, 3.0].contains(number) => Ok(*number as usize),
+        Some(_) => Err(Refusal::BadDegree),
+    }
 }
 
 fn numbers_or_none(values: Option<Vec<Value>>) -> Vec<f64> {
@@ -399,7 +417,11 @@ fn random_text(random: &mut Random) -> Vec<u8> {
                     count,
                 );
                 let system = random.one(&[3, 10]);
-                let count = random.one(&[8, 8, 8, 2, 7, 64, 66]);
+                if random.below(2) == 0 {
+                    let degree = random.one(&["1", "2.0", "30D-1", "2", "3", "0", "'2'"]);
+                    text.push_str(&format!("BODY{system}_MAX_PHASE_DEGREE = {degree}\n"));
+                }
+                let count = random.one(&[12, 24, 24, 2, 7, 64, 66, 96, 99, 128, 132]);
                 add(
                     &mut text,
                     random,

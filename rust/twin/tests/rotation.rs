@@ -122,6 +122,7 @@ fn terms_add_sines_to_ra_and_w_and_cosines_to_dec() {
         pm: [30.0, 0.0, 0.0],
     };
     let nutation = Nutation {
+        degree: 1,
         angles: &[30.0, 90.0, 60.0, 0.0, 77.0, 1.0],
         ra: &[1.0],
         dec: &[2.0, 3.0],
@@ -133,6 +134,43 @@ fn terms_add_sines_to_ra_and_w_and_cosines_to_dec() {
     assert!(same(o.ra, 10.0 + 1.0 * s1));
     assert!(same(o.dec, (20.0 + 2.0 * c1) + 3.0 * c2));
     assert!(same(o.w, 30.0));
+}
+
+#[test]
+fn angles_are_nested_from_the_highest_inward() {
+    let elements = Elements {
+        ra: [10.0, 0.0, 0.0],
+        dec: [20.0, 0.0, 0.0],
+        pm: [30.0, 0.0, 0.0],
+    };
+    let angles = [0.1, 30.7, 1e-3, 7.3, -0.2, 3e5, 2.9, -11.0];
+    for epoch in [0.0, 1e9, -3.3e10, EPOCH_LIMIT, -EPOCH_LIMIT] {
+        let t = epoch / 86400.0 / 36525.0;
+        let [a, b, c, d, e, f, g, h] = angles;
+        for (degree, first, second) in [
+            (1, a + t * b, c + t * d),
+            (2, a + t * (b + t * c), d + t * (e + t * f)),
+            (
+                3,
+                a + t * (b + t * (c + t * d)),
+                e + t * (f + t * (g + t * h)),
+            ),
+        ] {
+            let nutation = Nutation {
+                degree,
+                angles: &angles,
+                ra: &[1.0, 2.0],
+                dec: &[-1.0, 2.0],
+                pm: &[3.0],
+            };
+            let o = evaluate(&elements, &nutation, epoch);
+            let (s1, c1) = sine_cosine(first);
+            let (s2, c2) = sine_cosine(second);
+            assert!(same(o.ra, (10.0 + 1.0 * s1) + 2.0 * s2), "{degree}");
+            assert!(same(o.dec, (20.0 + -1.0 * c1) + 2.0 * c2), "{degree}");
+            assert!(same(o.w, 30.0 + 3.0 * s1), "{degree}");
+        }
+    }
 }
 
 #[test]

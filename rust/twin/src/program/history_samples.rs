@@ -7,6 +7,7 @@ use twin::layout::{
 };
 use twin::limits::{LINE_BYTES, STATEMENTS, STRING_ROOM, TEXTS, TEXT_BYTES, VALUES};
 
+use super::history_degrees;
 use super::history_numbers;
 use super::history_strings;
 use super::random::Random;
@@ -39,6 +40,7 @@ pub fn script() -> Vec<u8> {
     damages(&mut script);
     history_strings::add(&mut script);
     history_numbers::add(&mut script);
+    history_degrees::add(&mut script);
     radii(&mut script);
     mixtures(&mut script);
     script.bytes

@@ -3,6 +3,7 @@
 pub mod bits;
 pub mod hard_numbers;
 pub mod histories;
+pub mod history_degrees;
 pub mod history_numbers;
 pub mod history_samples;
 pub mod history_strings;
