@@ -7,7 +7,7 @@ use crate::numbers;
 use crate::stack::{depth, Call};
 use crate::strings::full_pool;
 use crate::texts::{body, captions, kernel, system};
-use crate::work::pool_of;
+use crate::work::{pool_of, pool_of_degree};
 
 /// The epoch of every call; those that take none do not look at its register.
 const EPOCH: f64 = 1e9;
@@ -59,10 +59,11 @@ pub fn stacks() -> Vec<(&'static str, usize)> {
         pool_of(6),
         pool_of(16),
         full_pool(),
+        pool_of_degree(6, 3),
         pool_of(16),
     ];
     // The last one is damaged: its values are one fewer than its statements say.
-    pools[4][2] -= 1;
+    pools[5][2] -= 1;
     probes(&mut lent)
         .iter()
         .map(|probe| (probe.name, probe.deepest(&pools)))

@@ -15,12 +15,20 @@ pub fn body(system: u32, place: u32) -> u32 {
 
 /// A text about a system: its angles, its bodies with pole, meridian, terms and radii, and more.
 pub fn system(system: u32) -> String {
+    system_of_degree(system, 1)
+}
+
+/// The same with angles of a degree, which is said if it is not 1.
+pub fn system_of_degree(system: u32, degree: usize) -> String {
     let mut text = String::from("KPL/PCK\n\nA system of bodies.\n\n\\begindata\n\n");
     let angles = system % 9 + 1;
+    if degree > 1 {
+        writeln!(text, "BODY{angles}_MAX_PHASE_DEGREE = {degree}").expect("a string grows");
+    }
     add(
         &mut text,
         &format!("BODY{angles}_NUT_PREC_ANGLES"),
-        2 * ANGLES,
+        (degree + 1) * ANGLES,
     );
     for place in 0..BODIES {
         add_body(&mut text, body(system, place));

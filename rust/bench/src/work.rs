@@ -11,7 +11,7 @@ use twin::{answers, builtin, pool};
 use crate::library;
 use crate::numbers;
 use crate::strings;
-use crate::texts::{body, kernel, system};
+use crate::texts::{body, kernel, system, system_of_degree};
 use crate::timing::{medians, Restore, Side};
 
 /// The most that a call may take, in times of the twin.
@@ -21,6 +21,10 @@ const OTHER_GOAL: f64 = 3.0;
 
 /// The texts that are held, one after another.
 const HELD: [u32; 3] = [1, 6, 16];
+
+/// The texts that are held where the first one's angles are of a higher degree: so many that its
+/// further values find room.
+const HELD_OF_DEGREE: [u32; 2] = [1, 6];
 
 /// What is asked for.
 pub const EPOCH: f64 = 123_456_789.125;
@@ -72,6 +76,7 @@ pub fn measured() -> Vec<Row> {
     for measure in [removed, cleared, fetched, counted, oriented, sized] {
         rows.extend(HELD.map(measure));
     }
+    rows.extend(HELD_OF_DEGREE.map(oriented_by_squares));
     rows.push(oriented_by_table());
     rows.push(sized_by_table());
     rows.extend(strings::measured());
@@ -81,10 +86,15 @@ pub fn measured() -> Vec<Row> {
 
 /// A pool that holds the first systems, labelled from 0 on.
 pub fn pool_of(texts: u32) -> Vec<u64> {
+    pool_of_degree(texts, 1)
+}
+
+/// The same with angles of a degree in the first of them.
+pub fn pool_of_degree(texts: u32, degree: usize) -> Vec<u64> {
     let mut words = vec![0; WORDS];
     pool::make_empty(&mut words).expect("memory of a pool's size");
     for label in 0..texts {
-        let text = system(label);
+        let text = system_of_degree(label, if label == 0 { degree } else { 1 });
         pool::load(&mut words, label, text.as_bytes()).expect("a right text");
     }
     words
@@ -163,9 +173,17 @@ fn counted(texts: u32) -> Row {
 }
 
 fn oriented(texts: u32) -> Row {
+    oriented_on("orientation, 13 angles", texts, 1)
+}
+
+fn oriented_by_squares(texts: u32) -> Row {
+    oriented_on("orientation, 13 angles of degree 2", texts, 2)
+}
+
+fn oriented_on(call: &'static str, texts: u32, degree: usize) -> Row {
     let body = body(0, 0);
     Work {
-        call: "orientation, 13 angles",
+        call,
         goal: ORIENTATION_GOAL,
         restore: Restore::Nothing,
         library: &mut |words| {
@@ -176,7 +194,7 @@ fn oriented(texts: u32) -> Row {
         },
         twin: &mut |words| assert!(answers::orientation(words, body, black_box(EPOCH)).is_ok()),
     }
-    .on(&pool_of(texts), Some(texts), None)
+    .on(&pool_of_degree(texts, degree), Some(texts), None)
 }
 
 fn sized(texts: u32) -> Row {

@@ -1,6 +1,7 @@
 //! Body codes, and texts about bodies that are mostly complete.
 
 use crate::decimals::inside;
+use crate::degrees;
 use crate::radii;
 use crate::random::Random;
 use crate::strings::{quoted, string};
@@ -21,7 +22,7 @@ const STRAY: [u32; 4] = [0, 11, 99, 1000];
 pub const TABLE: [u32; 10] = [10, 199, 299, 399, 499, 599, 699, 799, 899, 999];
 
 /// The words of a body's variables.
-const WORDS: [&str; 10] = [
+const WORDS: [&str; 11] = [
     "POLE_RA",
     "POLE_DEC",
     "PM",
@@ -29,6 +30,7 @@ const WORDS: [&str; 10] = [
     "NUT_PREC_DEC",
     "NUT_PREC_PM",
     "NUT_PREC_ANGLES",
+    "MAX_PHASE_DEGREE",
     "RADII",
     "CAPTION",
     "CAPTION",
@@ -92,14 +94,19 @@ pub fn text(random: &mut Random) -> Vec<u8> {
             let count = random.one(&[0, 1, longest, longest, longest]);
             add(&mut text, random, body, word, count);
         }
-        // 64 are enough for the terms of any other text about the system.
-        let twice = 2 * longest;
+        // Another text about the system may have said another degree.
+        let said = degrees::said(random);
+        if !random.once_in(20) {
+            text.push_str(&format!("BODY{system}_MAX_PHASE_DEGREE = {}\n", said.words));
+        }
+        // 32 groups are enough for the terms of any other text about the system.
+        let group = said.degree.unwrap_or(1) + 1;
         let count = match random.below(20) {
             0 => 0,
-            1 => twice - 1,
-            2 => 66,
-            3..=5 => twice,
-            _ => 64,
+            1 => group * longest - 1,
+            2 => group * 33,
+            3..=5 => group * longest,
+            _ => group * 32,
         };
         add(&mut text, random, system, "NUT_PREC_ANGLES", count);
     }
@@ -155,7 +162,7 @@ fn radius(random: &mut Random) -> String {
 }
 
 /// A value as reports print them, or any of the class.
-fn coefficient(random: &mut Random) -> String {
+pub fn coefficient(random: &mut Random) -> String {
     match random.below(12) {
         0 => inside(random),
         1 => String::from(random.one(&["0", "-0", "90", "-90", "180", "360", "45", "-270"])),

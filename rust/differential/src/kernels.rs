@@ -1,6 +1,7 @@
 //! The kernels of the source documents, loaded by both sides: every variable, and every body at
 //! many epochs.
 
+use twin::angle::{sine_cosine, wrap};
 use twin::layout::WORDS;
 use twin::text::read;
 
@@ -22,7 +23,7 @@ macro_rules! kernel {
 }
 
 /// The kernels of `examples/kernels`, by name.
-pub const KERNELS: [(&str, &[u8]); 8] = [
+pub const KERNELS: [(&str, &[u8]); 9] = [
     kernel!("planets"),
     kernel!("radii"),
     kernel!("moon"),
@@ -31,6 +32,8 @@ pub const KERNELS: [(&str, &[u8]); 8] = [
     kernel!("mars-example"),
     kernel!("mars-example-short"),
     kernel!("museum"),
+    // After all others that have angles of Mars, since it says their degree too.
+    kernel!("mars-moons-square"),
 ];
 
 /// More strings than a variable of a kernel has.
@@ -75,6 +78,61 @@ pub fn compare_with_built_in(random: &mut Random, epochs: usize) {
             assert_eq!(by_pool, built_in, "{body} at {epoch:?}");
         }
     }
+}
+
+/// Constant and rate of Phobos' second angle, and its square term, by centuries.
+const M2: [f64; 2] = [192.93, 41215163.19675];
+const SQUARE: f64 = 8.864;
+
+/// What the sine of the second angle is multiplied with in Phobos' meridian.
+const PHOBOS: f64 = -0.78;
+
+/// The seconds of a century, within which a meridian is good to this many degrees.
+const CENTURY: f64 = 3_155_760_000.0;
+const GOOD: f64 = 1e-7;
+
+/// With the square term announced, Phobos' meridian differs from the cut one by what the term does
+/// to the sine, on both sides; its pole does not, and Deimos keeps every bit.
+pub fn compare_square_term(random: &mut Random, epochs: usize) {
+    let mut pairs = ["mars-moons", "mars-moons-square"].map(|name| with_kernel(random, name));
+    for _ in 0..epochs {
+        let epoch = (2.0 * random.fraction() - 1.0) * CENTURY;
+        let [cut, square] = pairs
+            .each_mut()
+            .map(|pair| pair.ask(&Call::Orientation { body: 401, epoch }));
+        assert_eq!((cut.number, square.number), (0, 0));
+        assert_eq!(cut.bits[..2], square.bits[..2], "the pole at {epoch:?}");
+
+        let [before, after] = [cut, square].map(|answer| f64::from_bits(answer.bits[2]));
+        let difference = wrap(after - before + 180.0) - 180.0;
+        let expected = term(epoch, SQUARE) - term(epoch, 0.0);
+        assert!(
+            (difference - expected).abs() < GOOD,
+            "{difference} in place of {expected} at {epoch:?}"
+        );
+        let [cut, square] = pairs
+            .each_mut()
+            .map(|pair| pair.ask(&Call::Orientation { body: 402, epoch }));
+        assert_eq!(cut, square, "Deimos at {epoch:?}");
+    }
+}
+
+/// What the second angle adds to Phobos' meridian, with a square term.
+fn term(epoch: f64, square: f64) -> f64 {
+    let t = epoch / CENTURY;
+    let [constant, rate] = M2;
+    PHOBOS * sine_cosine(constant + t * (rate + t * square)).0
+}
+
+/// A pool with one kernel.
+fn with_kernel(random: &mut Random, name: &str) -> Pair {
+    let mut pair = Pair::new(&vec![random.bits(); WORDS]);
+    pair.ask(&Call::MakeEmpty);
+    let kernel = KERNELS.iter().find(|(kernel, _)| *kernel == name);
+    let (_, text) = kernel.expect("a kernel of this name");
+    let label = 1;
+    assert_eq!(pair.ask(&Call::Load { label, text }).number, 0);
+    pair
 }
 
 /// Loads a kernel and fetches every variable that it names.

@@ -7,6 +7,7 @@ mod buffers;
 mod call;
 pub mod damage;
 pub mod decimals;
+pub mod degrees;
 mod epochs;
 pub mod histories;
 pub mod kernels;

@@ -5,13 +5,13 @@ use std::io::{self, Write};
 use std::path::Path;
 
 use differential::{
-    damage, decimals, histories, kernels, long_numbers, orientations, radii, strings, texts,
-    Random, Tally,
+    damage, decimals, degrees, histories, kernels, long_numbers, orientations, radii, strings,
+    texts, Random, Tally,
 };
 
 const SEED: u64 = 2000;
 
-/// The least that each of the refusals is met where it belongs, and any refusal elsewhere.
+/// The least that each refusal is met where it belongs, and any refusal elsewhere.
 const LEAST_AT_HOME: u64 = 500;
 const LEAST: u64 = 100;
 
@@ -43,7 +43,7 @@ fn orientations_by_pools() {
     let tally = orientations::run_on_pools(&mut Random::new(SEED), 300_000);
     report("orientations by pools", &tally);
     tally.expect([0], 100_000);
-    tally.expect([9, 10, 11, 12, 16], LEAST_AT_HOME);
+    tally.expect([9, 10, 11, 12, 16, 23], LEAST_AT_HOME);
 }
 
 #[test]
@@ -52,6 +52,17 @@ fn orientations_by_the_table() {
     report("orientations by the table", &tally);
     tally.expect([0], 100_000);
     tally.expect([9, 10], LEAST);
+}
+
+#[test]
+fn systems_of_a_degree() {
+    let tally = degrees::run_marked(&mut Random::new(SEED));
+    report("systems of every degree", &tally);
+    tally.expect([0, 11, 12, 23], LEAST_AT_HOME);
+    let tally = degrees::run(&mut Random::new(SEED), 10_000);
+    report("systems of any degree", &tally);
+    tally.expect([0, 11, 12, 23], LEAST_AT_HOME);
+    degrees::compare_with_none(&mut Random::new(SEED), 2_000);
 }
 
 #[test]
@@ -94,6 +105,11 @@ fn kernels_of_the_source_documents() {
     let tally = kernels::run(&mut Random::new(SEED), 200);
     report("calls on kernels", &tally);
     kernels::compare_with_built_in(&mut Random::new(SEED), 1_000);
+}
+
+#[test]
+fn phobos_with_its_square_term() {
+    kernels::compare_square_term(&mut Random::new(SEED), 20_000);
 }
 
 #[test]

@@ -6,14 +6,14 @@ use std::process::ExitCode;
 use std::time::{Duration, Instant};
 
 use differential::{
-    damage, decimals, histories, kernels, long_numbers, orientations, radii, strings, texts,
-    Random, Tally,
+    damage, decimals, degrees, histories, kernels, long_numbers, orientations, radii, strings,
+    texts, Random, Tally,
 };
 
 /// One kind of comparison: its name, what it runs, and how much of it in a round.
 type Kind = (&'static str, fn(&mut Random, usize) -> Tally, usize);
 
-const KINDS: [Kind; 10] = [
+const KINDS: [Kind; 11] = [
     ("generated texts", texts::run, 20_000),
     ("calls of histories", histories::run, 1_000),
     ("orientations by pools", orientations::run_on_pools, 20_000),
@@ -22,6 +22,7 @@ const KINDS: [Kind; 10] = [
         orientations::run_on_table,
         20_000,
     ),
+    ("systems of a degree", degrees::run, 2_000),
     ("decimal strings", decimals::run, 20_000),
     ("long numbers", long_numbers::run, 200_000),
     ("strings in quotes", strings::run, 10_000),
