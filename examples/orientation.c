@@ -44,8 +44,9 @@ static const struct {
                             "look up the code, or load a text that has this of the body"},
     [GLOBE_INCOMPLETE] = {"INCOMPLETE", "add what is missing: POLE_RA, POLE_DEC and PM go "
                                         "together, and NUT_PREC terms go with NUT_PREC_ANGLES"},
-    [GLOBE_WRONG_COUNT] = {"WRONG COUNT", "count the values: 1 to 3 for pole and meridian, 2 for "
-                                          "each angle, 3 for radii"},
+    [GLOBE_WRONG_COUNT] = {"WRONG COUNT", "count the values: 1 to 3 for pole and meridian, 3 for "
+                                          "radii, and for each angle 2, or one more than "
+                                          "MAX_PHASE_DEGREE says"},
     [GLOBE_NO_VARIABLE] = {"NO VARIABLE", "look up the name: no statement has it, or no string the "
                                           "place"},
     [GLOBE_SHORT_BUFFER] = {"SHORT BUFFER", "lend a longer buffer: 3,072 values always suffice, or "
@@ -60,6 +61,7 @@ static const struct {
                                       "single quotes; a list has one kind of them"},
     [GLOBE_OPEN_LIST] = {"OPEN LIST", "give the list a value and close it with a )"},
     [GLOBE_REST_OF_LINE] = {"REST OF LINE", "take this away, or begin a new line before it"},
+    [GLOBE_BAD_DEGREE] = {"BAD DEGREE", "give MAX_PHASE_DEGREE one number: 1, 2 or 3"},
     [GLOBE_BAD_RADIUS] = {"BAD RADIUS", "look up the radii: each is greater than 0"},
 };
 

@@ -89,6 +89,7 @@ enum globe_number {
     GLOBE_OPEN_LIST = 20,    /* the list is empty (of its bracket), or open at a delimiter line (1)
                                 or at the text's end (one past its last line) */
     GLOBE_REST_OF_LINE = 21, /* more than blanks follows the statement (of the first such byte) */
+    GLOBE_BAD_DEGREE = 23,   /* the degree of a system's angles is not one number, 1, 2 or 3 */
     GLOBE_BAD_RADIUS = 24    /* a radius of the pool is not greater than 0 */
 };
 
@@ -197,10 +198,12 @@ globe_counts globe_totals(const uint64_t *pool, size_t words);
  * Refused: 15 DAMAGED POOL; 9 EPOCH; 10 UNKNOWN BODY, for a code that has no meaning or a body n of
  * which none of BODYn_POLE_RA, BODYn_POLE_DEC and BODYn_PM is held; 11 INCOMPLETE, if only some of
  * these are held, or one of BODYn_NUT_PREC_RA, _DEC and _PM without BODYs_NUT_PREC_ANGLES (s is the
- * hundreds of n, or n itself up to 10); 16 MIXED KIND, if any of these has a string in it, the
- * angles only where they are asked for; 12 WRONG COUNT, if one of the first three has over 3
- * values, or the angles are asked for and are odd in number, over 64 or fewer than twice the
- * longest of the terms.
+ * hundreds of n, or n itself up to 10); 23 BAD DEGREE, if one of these terms is held, and
+ * BODYs_MAX_PHASE_DEGREE is held and is not one number that is 1, 2 or 3 as a double; 16 MIXED
+ * KIND, if any of the others has a string in it, the angles only where they are asked for; 12 WRONG
+ * COUNT, if one of the first three has over 3 values, or the angles are asked for and are not whole
+ * groups of one value more than their degree, over 32 groups, or fewer than the longest of the
+ * terms has values. The degree is 1 where nothing is held of it.
  * The pool is only read.
  */
 globe_oriented globe_orientation(const uint64_t *pool, size_t words, uint32_t body, double epoch);

@@ -34,6 +34,7 @@ pub const GLOBE_NO_OPERATOR: u32 = 18;
 pub const GLOBE_BAD_VALUE: u32 = 19;
 pub const GLOBE_OPEN_LIST: u32 = 20;
 pub const GLOBE_REST_OF_LINE: u32 = 21;
+pub const GLOBE_BAD_DEGREE: u32 = 23;
 pub const GLOBE_BAD_RADIUS: u32 = 24;
 
 /// Done, or refused.

@@ -40,7 +40,7 @@ fn types_and_constants_are_the_header_s() {
     number!(lines: GLOBE_EPOCH GLOBE_UNKNOWN_BODY GLOBE_INCOMPLETE GLOBE_WRONG_COUNT);
     number!(lines: GLOBE_NO_VARIABLE GLOBE_SHORT_BUFFER GLOBE_DAMAGED_POOL GLOBE_MIXED_KIND);
     number!(lines: GLOBE_BAD_NAME GLOBE_NO_OPERATOR GLOBE_BAD_VALUE GLOBE_OPEN_LIST);
-    number!(lines: GLOBE_REST_OF_LINE GLOBE_BAD_RADIUS);
+    number!(lines: GLOBE_REST_OF_LINE GLOBE_BAD_DEGREE GLOBE_BAD_RADIUS);
 
     let program = common::compile(Path::new("tests/layout.c"));
     assert_eq!(lines, common::written(&common::run(&program, &[])));

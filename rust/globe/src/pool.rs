@@ -223,8 +223,8 @@ impl Pool {
     ///
     /// Refused, in this order: [`DamagedPool`](crate::Refusal::DamagedPool),
     /// [`Epoch`](crate::Refusal::Epoch), [`UnknownBody`](crate::Refusal::UnknownBody),
-    /// [`Incomplete`](crate::Refusal::Incomplete), [`MixedKind`](crate::Refusal::MixedKind),
-    /// [`WrongCount`](crate::Refusal::WrongCount).
+    /// [`Incomplete`](crate::Refusal::Incomplete), [`BadDegree`](crate::Refusal::BadDegree),
+    /// [`MixedKind`](crate::Refusal::MixedKind), [`WrongCount`](crate::Refusal::WrongCount).
     ///
     /// ```
     /// use globe::{Pool, Refusal};

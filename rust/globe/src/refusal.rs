@@ -55,13 +55,15 @@ pub enum Refusal {
     OpenList,
     /// 21: something follows the statement on its line.
     RestOfLine,
+    /// 23: the degree of a system's angles is not 1, 2 or 3.
+    BadDegree,
     /// 24: a radius from a pool is not greater than 0.
     BadRadius,
 }
 
 impl Refusal {
-    /// All refusals, in the order of their numbers. None has the number 5.
-    pub const ALL: [Refusal; 21] = [
+    /// All refusals, in the order of their numbers. None has the number 5 or 22.
+    pub const ALL: [Refusal; 22] = [
         Refusal::LabelHeld,
         Refusal::TextTooLong,
         Refusal::LineTooLong,
@@ -82,6 +84,7 @@ impl Refusal {
         Refusal::BadValue,
         Refusal::OpenList,
         Refusal::RestOfLine,
+        Refusal::BadDegree,
         Refusal::BadRadius,
     ];
 
@@ -108,6 +111,7 @@ impl Refusal {
             Refusal::BadValue => sys::GLOBE_BAD_VALUE,
             Refusal::OpenList => sys::GLOBE_OPEN_LIST,
             Refusal::RestOfLine => sys::GLOBE_REST_OF_LINE,
+            Refusal::BadDegree => sys::GLOBE_BAD_DEGREE,
             Refusal::BadRadius => sys::GLOBE_BAD_RADIUS,
         }
     }
@@ -135,6 +139,7 @@ impl Refusal {
             Refusal::BadValue => "BAD VALUE",
             Refusal::OpenList => "OPEN LIST",
             Refusal::RestOfLine => "REST OF LINE",
+            Refusal::BadDegree => "BAD DEGREE",
             Refusal::BadRadius => "BAD RADIUS",
         }
     }
@@ -190,7 +195,8 @@ impl Refusal {
             }
             Refusal::WrongCount => {
                 "a variable has too few or too many values; a pole or meridian has 1 to 3, radii \
-                 are 3, and the angles are pairs, at most 32, and at least as many as the longest \
+                 are 3, and the angles are pairs, or groups of one value more than \
+                 BODYs_MAX_PHASE_DEGREE says, at most 32, and at least as many as the longest \
                  BODYn_NUT_PREC variable has values"
             }
             Refusal::NoVariable => {
@@ -235,6 +241,11 @@ impl Refusal {
             Refusal::RestOfLine => {
                 "the statement is complete before this; begin a new line for the next statement, \
                  put several values between ( and ), or put a comment behind \\begintext"
+            }
+            Refusal::BadDegree => {
+                "BODYs_MAX_PHASE_DEGREE is not one number that is 1, 2 or 3, s being the hundreds \
+                 of the body's code or the code itself up to 10; write the degree of the system's \
+                 angles without quotes and with =, not +=, or leave it out where it is 1"
             }
             Refusal::BadRadius => {
                 "a radius of the body is 0 or negative; look it up and mend the text, or load a \

@@ -173,6 +173,15 @@ fn of_orientations_and_radii() {
         .unwrap();
     assert_eq!(pool.radii(1), Ok([1.0, 1.0, 2.0]));
     assert_eq!(orientation(&pool, 0.0), alone(Refusal::MixedKind));
+    pool.load(7, "\\begindata\nBODY1_NUT_PREC_PM = 'a'")
+        .unwrap();
+    assert_eq!(orientation(&pool, 0.0), alone(Refusal::Incomplete));
+    pool.load(8, "\\begindata\nBODY1_NUT_PREC_ANGLES = ( 1 2 3 )")
+        .unwrap();
+    assert_eq!(orientation(&pool, 0.0), alone(Refusal::MixedKind));
+    pool.load(9, "\\begindata\nBODY1_MAX_PHASE_DEGREE = 4")
+        .unwrap();
+    assert_eq!(orientation(&pool, 0.0), alone(Refusal::BadDegree));
     let negative = builtin_orientation(-31_i32 as u32, 0.0);
     assert_eq!(negative, Err(alone(Refusal::UnknownBody)));
 }
@@ -200,7 +209,7 @@ fn of_every_call_on_a_damaged_pool() {
 
 #[test]
 fn numbers_and_words() {
-    let numbers = (1..=24).filter(|number| ![5, 22, 23].contains(number));
+    let numbers = (1..=24).filter(|number| ![5, 22].contains(number));
     assert!(Refusal::ALL.map(Refusal::number).into_iter().eq(numbers));
     for refusal in Refusal::ALL {
         let shown = alone(refusal).to_string();
