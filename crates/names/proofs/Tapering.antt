@@ -5,7 +5,7 @@ use mathlib.Core.List.{List, [], _∷_, _++_}
 use Prim.Native.Nat.{ℕ, suc, _+_, _*_, _/_, _%_, _<_}
 use native.Mathlib.Nat.{div-lt-iff-lt-mul, mod-eq-of-lt}
 use native.Mathlib.Omega.{arith}
-use borrow.Author.Tests.{eqb-true, eqb-false, le-leb}
+use borrow.Author.Tests.{eqb-true, eqb-false, ne-eqb, le-leb}
 use lib.Dec.{T, eqb, leb, ltb, lit<}
 use lib.ListN.{length, getD}
 use Rattle.plain.specs.Choice.{if_then_else_}
@@ -233,7 +233,19 @@ unfolding holdsName unpacked octets
 holds-none [] e = refl
 holds-none (w ∷ ws) e = absurd (omega arith)
 
-pub holds-first : (ws : List ℕ) → (length ws ≡ 0 → ⊥) → getD ws 0 0 < WORD → holdsName ws ≡ nameByte (getD ws 0 0 / HIGHEST) && ends (octets ws)
+holds-first : (w : ℕ) (ws : List ℕ) → w < WORD → holdsName (w ∷ ws) ≡ nameByte (w / HIGHEST) && ends (octets (w ∷ ws))
 unfolding holdsName
-holds-first [] n h = absurd (n refl)
-holds-first (w ∷ ws) n h = ap (λ (t : Bool). t && ends (octets (w ∷ ws))) (first-byte w ws h)
+holds-first w ws h = ap (λ (t : Bool). t && ends (octets (w ∷ ws))) (first-byte w ws h)
+
+-- a first word that is zero has no name byte, and one that is not has one where the words taper
+pub holds-zero : (ws : List ℕ) → getD ws 0 0 ≡ 0 → holdsName ws ≡ false
+holds-zero [] e = holds-none [] refl
+holds-zero (w ∷ ws) e = holds-first w ws (omega arith) ∙ rw e
+
+pub holds-some : (ws : List ℕ) → getD ws 0 0 < WORD → (getD ws 0 0 ≡ 0 → ⊥) → holdsName ws ≡ ends (octets ws)
+holds-some [] h n = absurd (n refl)
+holds-some (w ∷ ws) h n = holds-first w ws h ∙ by (nameByte (w / HIGHEST)) refl
+  where
+    by : (t : Bool) → nameByte (w / HIGHEST) ≡ t → (t && ends (octets (w ∷ ws))) ≡ ends (octets (w ∷ ws))
+    by true e = refl
+    by false e = sym (ends-never w ws (ends-here w h e ∙ ne-eqb 0 w (λ z. n (sym z))))

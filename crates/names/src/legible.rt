@@ -1,4 +1,6 @@
 // "names .. legal": words that hold a name's bytes from the most significant down, and zeros after it.
+use crate::whole::filled;
+use crate::whole::is_whole;
 use value::classes::Class;
 use value::classes::in_class;
 use words::scan::all_zero;
@@ -17,13 +19,14 @@ const HIGHEST: u64 = 72057594037927936;
 const BYTE: u64 = 256;
 
 // The words hold a legal name, and zeros after it.
+// Words that taper hold one where the first is not zero.
 pub fn holds_name(ws: &[u64]) -> bool
     ensures { λ r. ⌜ r ≡ holdsName (now (ws .entry)) ⌝ }
 {
     if ws.len() == 0 {
         return false;
     }
-    if !is_name_byte(ws[0] / HIGHEST) {
+    if ws[0] == 0 {
         return false;
     }
     all_taper(ws)
@@ -37,18 +40,31 @@ fn all_taper(ws: &[u64]) -> bool
     while i < ws.len() {
         let w = ws[i];
         i += 1;
+        if w % BYTE == 0 {
+            if !tapers(filled(w)) {
+                return false;
+            }
+            return all_zero(&ws[i..]);
+        }
         if !tapers(w) {
             return false;
-        }
-        if w % BYTE == 0 {
-            return all_zero(&ws[i..]);
         }
     }
     true
 }
 
-// The word holds name bytes, and zeros after them: it is shifted up while a name byte is highest.
+// The word holds name bytes, and zeros after them. A word of name bytes only is told at once.
 fn tapers(w: u64) -> bool
+    ensures { λ r. ⌜ r ≡ all (eqb 0) (skip nameByte (bytesOf w)) ⌝ }
+{
+    if is_whole(w) {
+        return true;
+    }
+    bytes_taper(w)
+}
+
+// The same, byte by byte: the word is shifted up while a name byte is highest.
+fn bytes_taper(w: u64) -> bool
     ensures { λ r. ⌜ r ≡ all (eqb 0) (skip nameByte (bytesOf w)) ⌝ }
 {
     let mut rest = w;

@@ -35,6 +35,9 @@ shared-slice-read-w c = omega arith
 add-i : tie.Need-add-i Inv-loop μ-loop
 add-i c = omega arith
 
+filled-requires : tie.Need-filled-requires Inv-loop μ-loop
+filled-requires c κs = search needs
+
 tapers-requires : tie.Need-tapers-requires Inv-loop μ-loop
 tapers-requires c κs = search needs
 
@@ -64,8 +67,9 @@ none-left ws i h k = sym (ap (λ (l : List ℕ). ends (octets l)) (drop-end ws i
 
 returns : tie.Need-returns Inv-loop μ-loop
 returns c =
-    let t = c .before .before .before in
-    sym (never _ _ (t .loop-test .taken) (sym (c .before .tapers .ensures) ∙ not-true _ (c .if1 .taken))) ∙ t .before .loop .inv .1
+    let f = c .before .before in
+    let t = f .before .before .before in
+    sym (never _ _ (t .loop-test .taken) (sym (f .filled .ensures) ∙ sym (c .before .tapers .ensures) ∙ not-true _ (c .if2 .taken))) ∙ t .before .loop .inv .1
 
 mul-all-zero : tie.Need-mul-all-zero Inv-loop μ-loop
 mul-all-zero c = omega arith
@@ -84,26 +88,34 @@ all-zero-requires c κs = search needs
 
 returns-2 : tie.Need-returns-2 Inv-loop μ-loop
 returns-2 c =
-    let p = c .before .before .before in
-    let t = p .before .before .before in
+    let p = c .before .before in
+    let f = p .before .before in
+    let t = f .before .before .before in
     let l = t .before .loop in
     let a = t .before .before .before .args in
     c .all-zero .ensures
     ∙ last (a .ws .now) (l .i) (t .loop-test .taken) (λ j. omega (arith, t .before .before .shared-slice-known .given j))
-    (sym (p .before .tapers .ensures) ∙ not-false _ (p .if1 .left)) (c .before .before .if2 .taken)
+    (sym (f .filled .ensures) ∙ sym (p .before .tapers .ensures) ∙ not-false _ (p .if2 .left)) (f .before .if1 .taken)
     ∙ l .inv .1
+
+tapers-requires-2 : tie.Need-tapers-requires-2 Inv-loop μ-loop
+tapers-requires-2 c κs = search needs
+
+returns-3 : tie.Need-returns-3 Inv-loop μ-loop
+returns-3 c =
+    let t = c .before .before .before .before in
+    sym (never _ _ (t .loop-test .taken) (sym (c .before .tapers2 .ensures) ∙ not-true _ (c .if3 .taken))) ∙ t .before .loop .inv .1
 
 loop-less : tie.Need-loop-less Inv-loop μ-loop
 loop-less c = omega arith
 
 loop-again : tie.Need-loop-again Inv-loop μ-loop
 loop-again c =
-    let p = c .before in
-    let t = p .before .before .before in
-    (omega arith, through _ _ (t .loop-test .taken) (sym (p .before .tapers .ensures) ∙ not-false _ (p .if1 .left)) (c .if2 .left) ∙ t .before .loop .inv .1)
+    let t = c .before .before .before .before in
+    (omega arith, through _ _ (t .loop-test .taken) (sym (c .before .tapers2 .ensures) ∙ not-false _ (c .if3 .left)) (c .before .before .if1 .left) ∙ t .before .loop .inv .1)
 
-returns-3 : tie.Need-returns-3 Inv-loop μ-loop
-returns-3 c = none-left _ _ (c .before .loop .inv .0) (c .loop-test .left) ∙ c .before .loop .inv .1
+returns-4 : tie.Need-returns-4 Inv-loop μ-loop
+returns-4 c = none-left _ _ (c .before .loop .inv .0) (c .loop-test .left) ∙ c .before .loop .inv .1
 
 pub all-taper-spec : {M : Type 1} → statement M
 all-taper-spec =
@@ -115,6 +127,7 @@ all-taper-spec =
     mul-w
     shared-slice-read-w
     add-i
+    filled-requires
     tapers-requires
     returns
     mul-all-zero
@@ -123,6 +136,8 @@ all-taper-spec =
     part-all-zero-end
     all-zero-requires
     returns-2
+    tapers-requires-2
+    returns-3
     loop-less
     loop-again
-    returns-3)
+    returns-4)
