@@ -27,7 +27,7 @@ same-orientation r r′ e = cc
 same-radii : (r r′ : Radii) → (measured r ≡ measured r′) → r ≡ r′
 same-radii r r′ e = cc
 
-in-range : (source : Source) (m : List ℕ) (n : ℕ) (epoch : Float) (o : Orientation) → orientationReply source m n epoch ≡ O.Given o → InRange o
+pub in-range : (source : Source) (m : List ℕ) (n : ℕ) (epoch : Float) (o : Orientation) → orientationReply source m n epoch ≡ O.Given o → InRange o
 unfolding orientationReply
 in-range S.Builtin m n epoch o e = builtin-in-range n epoch o e
 in-range S.Pool m n epoch o e =

@@ -46,6 +46,8 @@ became R.OpenList = split refl (omega arith) (omega arith)
 became R.RestOfLine = split refl (omega arith) (omega arith)
 became R.BadDegree = added refl (omega arith)
 became R.BadRadius = added refl (omega arith)
+became R.BadRing = added refl (omega arith)
+became R.BadPosition = added refl (omega arith)
 
 -- the five numbers stand where 5 stood, and nowhere else
 pub five-split : (q : Refusal) → (numberBefore q ≡ SYNTAX) ↔ OneOfFive (numberOf q)
@@ -76,7 +78,7 @@ later = R.UnknownBody ∷ R.Incomplete ∷ R.WrongCount ∷ R.NoVariable ∷ R.S
 
 -- from 22 on
 abbrev last : List Refusal
-last = R.LabelHeld ∷ R.BadDegree ∷ R.BadRadius ∷ []
+last = R.LabelHeld ∷ R.BadDegree ∷ R.BadRadius ∷ R.BadRing ∷ R.BadPosition ∷ []
 
 abbrev named : ℕ → Refusal
 named n = getD (first ++ later ++ last) n R.LabelHeld
@@ -104,6 +106,8 @@ named-back R.OpenList = refl
 named-back R.RestOfLine = refl
 named-back R.BadDegree = refl
 named-back R.BadRadius = refl
+named-back R.BadRing = refl
+named-back R.BadPosition = refl
 
 pub same-number : (p q : Refusal) → numberOf p ≡ numberOf q → p ≡ q
 same-number p q e = sym (named-back p) ∙ ap named e ∙ named-back q

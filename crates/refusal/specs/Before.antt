@@ -30,3 +30,5 @@ numberBefore R.OpenList = SYNTAX
 numberBefore R.RestOfLine = SYNTAX
 numberBefore R.BadDegree = 23
 numberBefore R.BadRadius = 24
+numberBefore R.BadRing = 25
+numberBefore R.BadPosition = 26

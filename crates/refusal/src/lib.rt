@@ -26,6 +26,8 @@ pub enum Refusal {
     RestOfLine,
     BadDegree,
     BadRadius,
+    BadRing,
+    BadPosition,
 }
 
 // The number that the table gives a refusal.
@@ -55,5 +57,7 @@ pub fn number(refusal: Refusal) -> u32
         Refusal::RestOfLine => 21,
         Refusal::BadDegree => 23,
         Refusal::BadRadius => 24,
+        Refusal::BadRing => 25,
+        Refusal::BadPosition => 26,
     }
 }
