@@ -1,6 +1,6 @@
 //! Angles in degrees: document 01, "Wrap" and "Sine and cosine".
 
-const CIRCLE: f64 = 360.0;
+pub const CIRCLE: f64 = 360.0;
 const RADIANS_PER_DEGREE: f64 = 0.017453292519943295;
 
 /// The divisors of the sine's series, innermost first.

@@ -6,6 +6,7 @@ pub mod angle;
 pub mod answers;
 pub mod builtin;
 pub mod decimal;
+pub mod drive;
 pub mod layout;
 pub mod limits;
 pub mod listing;

@@ -1,5 +1,5 @@
 //! The limits of document 01, each under its name; document 02 has the one of lines in K1,
-//! those of strings in K2, that of whole numbers in K4 and those of angles in K8.
+//! those of strings in K2, that of whole numbers in K4, those of angles in K8 and those of rings in K13.
 
 /// The bytes of a text that can be loaded.
 pub const TEXT_BYTES: usize = 65_536;
@@ -39,3 +39,7 @@ pub const ANGLES: usize = 32;
 /// The highest degree of a system's angles, and the values that the angles have then.
 pub const HIGHEST_DEGREE: usize = 3;
 pub const ANGLE_VALUES: usize = ANGLES * (HIGHEST_DEGREE + 1);
+
+/// The positions of a motor's ring.
+pub const FEWEST_POSITIONS: u32 = 2;
+pub const MOST_POSITIONS: u32 = 4_096;

@@ -7,7 +7,7 @@ use std::io::{self, Read, Write};
 use std::process::ExitCode;
 
 const SUBCOMMANDS: &str =
-    "subcommands: orientations, texts-input, texts, histories-input, histories, listing";
+    "subcommands: orientations, turns, texts-input, texts, histories-input, histories, listing";
 
 fn main() -> ExitCode {
     let subcommand = env::args().nth(1).unwrap_or_default();
@@ -24,6 +24,7 @@ fn run(subcommand: &str) -> io::Result<()> {
     let mut out = io::BufWriter::new(io::stdout().lock());
     match subcommand {
         "orientations" => program::orientations::write(&mut out)?,
+        "turns" => program::turns::write(&mut out)?,
         "texts-input" => program::texts::write_input(&mut out)?,
         "texts" => program::texts::write(&input()?, &mut out)?,
         "histories-input" => program::histories::write_input(&mut out)?,

@@ -1,4 +1,5 @@
-//! The refusals and their numbers: document 01, "Refusal numbers", and K2, K3, K8 and K10 of document 02.
+//! The refusals and their numbers: document 01, "Refusal numbers", and K2, K3, K8, K10 and K13 of
+//! document 02.
 
 /// Why a call is refused.
 #[derive(Clone, Copy, Debug, PartialEq, Eq)]
@@ -25,6 +26,8 @@ pub enum Refusal {
     RestOfLine,
     BadDegree,
     BadRadius,
+    BadRing,
+    BadPosition,
 }
 
 impl Refusal {
@@ -53,6 +56,8 @@ impl Refusal {
             Refusal::RestOfLine => 21,
             Refusal::BadDegree => 23,
             Refusal::BadRadius => 24,
+            Refusal::BadRing => 25,
+            Refusal::BadPosition => 26,
         }
     }
 

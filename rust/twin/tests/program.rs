@@ -37,6 +37,24 @@ fn orientations_have_a_line_for_every_code_and_epoch() {
     assert_eq!(all.len(), 21 * 33);
 }
 
+#[test]
+fn turns_meet_every_answer() {
+    let all = lines(&twin("turns", b""));
+    assert_eq!(all.len(), 4 * 8 * 12 * 8);
+    for (call, place, numbers) in [
+        ("position", 4, &["0", "9", "10", "25"][..]),
+        ("move", 5, &["0", "9", "10", "25", "26"]),
+    ] {
+        for number in numbers {
+            let met = all.iter().any(|line| {
+                let mut fields = line.split(' ');
+                fields.next() == Some(call) && fields.nth(place - 1) == Some(number)
+            });
+            assert!(met, "{call} {number}");
+        }
+    }
+}
+
 /// What the programs of the library read of their input.
 const INPUT_BYTES: usize = 400_000;
 

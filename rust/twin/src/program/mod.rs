@@ -16,3 +16,4 @@ pub mod text_places;
 pub mod text_samples;
 pub mod text_strings;
 pub mod texts;
+pub mod turns;
