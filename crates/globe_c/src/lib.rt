@@ -1,6 +1,9 @@
-// The C face: the calls of include/globe.h, each a call of `globe` with its answer as a C structure.
+// The C face: the calls of include/globe.h, each a call of `globe` or `drive` with its answer as a C structure.
 mod face;
+mod motor;
 
+use drive::calls::position;
+use drive::calls::step;
 pub use face::GlobeAxes;
 pub use face::GlobeCounts;
 pub use face::GlobeFetched;
@@ -9,6 +12,8 @@ pub use face::GlobeReply;
 use globe::calls;
 use globe::source::Source;
 use layout::limits::WORDS;
+pub use motor::GlobeMotion;
+pub use motor::GlobePosition;
 ghost use mathlib.Core.Path.{_≡_};
 ghost use mathlib.Core.List.{[]};
 ghost use lib.ListN.{length};
@@ -23,6 +28,7 @@ ghost use Rattle.globe.specs.Orientation.{orientationReply};
 ghost use Rattle.globe.specs.Radii.{radiiReply};
 ghost use Rattle.globe.specs.declared.source.Source.the-variants.{Pool, Builtin};
 ghost use Rattle.globe_c.specs.Faces.{Changes, Fetches, countsFace, orientedFace, axesFace};
+ghost use Rattle.globe_c.specs.Motor.{ShowsPosition, ShowsMotion};
 
 #[no_mangle]
 pub extern "C" fn globe_pool_words() -> usize
@@ -113,4 +119,50 @@ pub extern "C" fn globe_builtin_radii(body: u32) -> GlobeAxes
 {
     let none: [u64; 0] = [];
     face::axes_face(calls::radii(Source::Builtin, &none, body))
+}
+
+#[no_mangle]
+pub extern "C" fn globe_drive_position(
+    pool: &[u64],
+    body: u32,
+    epoch: f64,
+    ring: u32,
+) -> GlobePosition
+    ensures { λ r. ⌜ ShowsPosition Pool (now (pool .entry)) body epoch ring r ⌝ }
+{
+    motor::position_face(position(Source::Pool, pool, body, epoch, ring))
+}
+
+#[no_mangle]
+pub extern "C" fn globe_drive_builtin_position(body: u32, epoch: f64, ring: u32) -> GlobePosition
+    ensures { λ r. ⌜ ShowsPosition Builtin [] body epoch ring r ⌝ }
+{
+    let none: [u64; 0] = [];
+    motor::position_face(position(Source::Builtin, &none, body, epoch, ring))
+}
+
+#[no_mangle]
+pub extern "C" fn globe_drive_move(
+    pool: &[u64],
+    body: u32,
+    epoch: f64,
+    ring: u32,
+    present: u32,
+) -> GlobeMotion
+    ensures { λ r. ⌜ ShowsMotion Pool (now (pool .entry)) body epoch ring present r ⌝ }
+{
+    motor::motion_face(step(Source::Pool, pool, body, epoch, ring, present))
+}
+
+#[no_mangle]
+pub extern "C" fn globe_drive_builtin_move(
+    body: u32,
+    epoch: f64,
+    ring: u32,
+    present: u32,
+) -> GlobeMotion
+    ensures { λ r. ⌜ ShowsMotion Builtin [] body epoch ring present r ⌝ }
+{
+    let none: [u64; 0] = [];
+    motor::motion_face(step(Source::Builtin, &none, body, epoch, ring, present))
 }

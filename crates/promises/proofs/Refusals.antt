@@ -53,6 +53,8 @@ refused-number Q.OpenList = refl
 refused-number Q.RestOfLine = refl
 refused-number Q.BadDegree = refl
 refused-number Q.BadRadius = refl
+refused-number Q.BadRing = refl
+refused-number Q.BadPosition = refl
 
 -- a call that changes the pool is accepted exactly when it is done
 pub accepted-done : (r : Reply) → eqb (replyNumber r) SUCCESS ≡ done r
