@@ -90,7 +90,9 @@ enum globe_number {
                                 or at the text's end (one past its last line) */
     GLOBE_REST_OF_LINE = 21, /* more than blanks follows the statement (of the first such byte) */
     GLOBE_BAD_DEGREE = 23,   /* the degree of a system's angles is not one number, 1, 2 or 3 */
-    GLOBE_BAD_RADIUS = 24    /* a radius of the pool is not greater than 0 */
+    GLOBE_BAD_RADIUS = 24,   /* a radius of the pool is not greater than 0 */
+    GLOBE_BAD_RING = 25,     /* a motor's ring has 2 to 4,096 positions, and not so many */
+    GLOBE_BAD_POSITION = 26  /* the present position is not below the ring's number */
 };
 
 /* Done, or refused. */
@@ -126,6 +128,21 @@ typedef struct {
     uint32_t number, line, column;
     double a, b, c;
 } globe_axes;
+
+/* Where a motor should stand on its ring: a position from 0 on, below the ring's number. */
+typedef struct {
+    uint32_t number, line, column, position;
+} globe_position;
+
+/*
+ * Where a motor should stand, and how it gets there from where it stands: so many positions
+ * forward, or back where move is negative. It is the shorter way round, forward if both are as
+ * long: more than half the ring back or forward is never answered, nor half of it back.
+ */
+typedef struct {
+    uint32_t number, line, column, target;
+    int32_t move;
+} globe_motion;
 
 /* The words that the linked library wants of a pool. It is never refused. */
 size_t globe_pool_words(void);
@@ -229,6 +246,38 @@ globe_axes globe_radii(const uint64_t *pool, size_t words, uint32_t body);
  * Refused: 10 UNKNOWN BODY, for every other code, also for the Sun.
  */
 globe_axes globe_builtin_radii(uint32_t body);
+
+/*
+ * The position of a motor that turns a globe to a body's meridian at an epoch, by the variables of
+ * the pool. ring is the number of the positions of a whole turn, which stand at its multiples from
+ * 0 on: the answer is the largest one, below ring, whose angle is not above the meridian. Angles
+ * are compared as doubles: that of position n is n times (360.0 / ring).
+ * Refused: 25 BAD RING, unless ring is 2 to 4,096; then as globe_orientation.
+ * The pool is only read.
+ */
+globe_position globe_drive_position(const uint64_t *pool, size_t words, uint32_t body, double epoch,
+                                    uint32_t ring);
+
+/*
+ * The same by the built-in table.
+ * Refused: 25 BAD RING; then as globe_builtin_orientation.
+ */
+globe_position globe_drive_builtin_position(uint32_t body, double epoch, uint32_t ring);
+
+/*
+ * The same position as target, and the move to it from the present position: present plus move is
+ * target, or a turn more or less. It is 0 exactly if the motor stands there already.
+ * Refused: 25 BAD RING; 26 BAD POSITION, if present is not below ring; then as globe_orientation.
+ * The pool is only read.
+ */
+globe_motion globe_drive_move(const uint64_t *pool, size_t words, uint32_t body, double epoch,
+                              uint32_t ring, uint32_t present);
+
+/*
+ * The same by the built-in table.
+ * Refused: 25 BAD RING; 26 BAD POSITION; then as globe_builtin_orientation.
+ */
+globe_motion globe_drive_builtin_move(uint32_t body, double epoch, uint32_t ring, uint32_t present);
 
 #ifdef __cplusplus
 }

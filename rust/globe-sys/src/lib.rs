@@ -36,6 +36,8 @@ pub const GLOBE_OPEN_LIST: u32 = 20;
 pub const GLOBE_REST_OF_LINE: u32 = 21;
 pub const GLOBE_BAD_DEGREE: u32 = 23;
 pub const GLOBE_BAD_RADIUS: u32 = 24;
+pub const GLOBE_BAD_RING: u32 = 25;
+pub const GLOBE_BAD_POSITION: u32 = 26;
 
 /// Done, or refused.
 #[repr(C)]
@@ -102,6 +104,27 @@ pub struct globe_axes {
     pub c: f64,
 }
 
+/// Where a motor should stand on its ring; 0 if the number is a refusal's.
+#[repr(C)]
+#[derive(Clone, Copy, Debug, PartialEq, Eq)]
+pub struct globe_position {
+    pub number: u32,
+    pub line: u32,
+    pub column: u32,
+    pub position: u32,
+}
+
+/// Where a motor should stand on its ring, and its way there; zeros if the number is a refusal's.
+#[repr(C)]
+#[derive(Clone, Copy, Debug, PartialEq, Eq)]
+pub struct globe_motion {
+    pub number: u32,
+    pub line: u32,
+    pub column: u32,
+    pub target: u32,
+    pub r#move: i32,
+}
+
 unsafe extern "C" {
     pub safe fn globe_pool_words() -> usize;
     pub fn globe_make_empty(pool: *mut u64, words: usize) -> globe_reply;
@@ -141,4 +164,26 @@ unsafe extern "C" {
     pub safe fn globe_builtin_orientation(body: u32, epoch: f64) -> globe_oriented;
     pub fn globe_radii(pool: *const u64, words: usize, body: u32) -> globe_axes;
     pub safe fn globe_builtin_radii(body: u32) -> globe_axes;
+    pub fn globe_drive_position(
+        pool: *const u64,
+        words: usize,
+        body: u32,
+        epoch: f64,
+        ring: u32,
+    ) -> globe_position;
+    pub safe fn globe_drive_builtin_position(body: u32, epoch: f64, ring: u32) -> globe_position;
+    pub fn globe_drive_move(
+        pool: *const u64,
+        words: usize,
+        body: u32,
+        epoch: f64,
+        ring: u32,
+        present: u32,
+    ) -> globe_motion;
+    pub safe fn globe_drive_builtin_move(
+        body: u32,
+        epoch: f64,
+        ring: u32,
+        present: u32,
+    ) -> globe_motion;
 }

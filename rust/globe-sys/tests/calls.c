@@ -83,6 +83,16 @@ static void print_axes(globe_axes x) {
     print_doubles(3, values);
 }
 
+static void print_position(globe_position p) {
+    print_place("position", p.number, p.line, p.column);
+    printf(" %" PRIu32 "\n", p.position);
+}
+
+static void print_motion(globe_motion m) {
+    print_place("motion", m.number, m.line, m.column);
+    printf(" %" PRIu32 " %" PRId32 "\n", m.target, m.move);
+}
+
 static void faulty_loads(void) {
     for (size_t i = 0; i < sizeof FAULTY / sizeof *FAULTY; i++) {
         const uint8_t *text = (const uint8_t *)FAULTY[i];
@@ -114,6 +124,23 @@ static void string_calls(void) {
     print_reply(globe_remove(pool, GLOBE_POOL_WORDS, 9));
 }
 
+static void drive_calls(void) {
+    print_position(globe_drive_position(pool, GLOBE_POOL_WORDS, 899, 0.0, 360));
+    print_position(globe_drive_position(pool, GLOBE_POOL_WORDS, 899, 0.0, 4097));
+    print_position(globe_drive_position(NULL, 0, 899, 0.0, 2));
+    print_position(globe_drive_builtin_position(399, 0.0, 4096));
+    print_position(globe_drive_builtin_position(11, 0.0, 1));
+    print_position(globe_drive_builtin_position(11, 0.0, 2));
+    print_motion(globe_drive_move(pool, GLOBE_POOL_WORDS, 899, 0.0, 360, 73));
+    print_motion(globe_drive_move(pool, GLOBE_POOL_WORDS, 899, 0.0, 360, 300));
+    print_motion(globe_drive_move(pool, GLOBE_POOL_WORDS, 899, 0.0, 360, 360));
+    print_motion(globe_drive_move(NULL, 0, 899, 0.0, 360, 359));
+    print_motion(globe_drive_builtin_move(399, 0.0, 4096, 4095));
+    print_motion(globe_drive_builtin_move(399, 0.0, 0, 4294967295u));
+    print_motion(globe_drive_builtin_move(399, 157788000001.0, 2, 2));
+    print_motion(globe_drive_builtin_move(399, 157788000001.0, 2, 1));
+}
+
 int main(void) {
     const uint8_t *text = (const uint8_t *)TEXT, *name = (const uint8_t *)NAME;
     const size_t words = globe_pool_words();
@@ -140,6 +167,7 @@ int main(void) {
     print_axes(globe_radii(pool, words, 399));
     print_axes(globe_builtin_radii(399));
     print_axes(globe_builtin_radii(10));
+    drive_calls();
 
     /* NULL with 0 is an empty slice. */
     print_reply(globe_make_empty(NULL, 0));

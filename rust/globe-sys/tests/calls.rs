@@ -92,6 +92,47 @@ impl Lines {
     fn axes(&mut self, x: globe_axes) {
         self.add("axes", &[x.number, x.line, x.column], &[x.a, x.b, x.c]);
     }
+
+    fn position(&mut self, p: globe_position) {
+        let numbers = [p.number, p.line, p.column, p.position];
+        self.add("position", &numbers, &[]);
+    }
+
+    fn motion(&mut self, m: globe_motion) {
+        let (target, steps) = (m.target, m.r#move);
+        writeln!(
+            self.0,
+            "motion {} {} {} {target} {steps}",
+            m.number, m.line, m.column
+        )
+        .unwrap();
+    }
+}
+
+/// The calls of the drive of `calls.c`, in its order.
+///
+/// # Safety
+///
+/// The pool is one of as many words as the library wants.
+unsafe fn drive_calls(lines: &mut Lines, pool: *const u64) {
+    let words = globe_pool_words();
+    // Safety: as above.
+    unsafe {
+        lines.position(globe_drive_position(pool, words, 899, 0.0, 360));
+        lines.position(globe_drive_position(pool, words, 899, 0.0, 4097));
+        lines.position(globe_drive_position(null(), 0, 899, 0.0, 2));
+        lines.position(globe_drive_builtin_position(399, 0.0, 4096));
+        lines.position(globe_drive_builtin_position(11, 0.0, 1));
+        lines.position(globe_drive_builtin_position(11, 0.0, 2));
+        lines.motion(globe_drive_move(pool, words, 899, 0.0, 360, 73));
+        lines.motion(globe_drive_move(pool, words, 899, 0.0, 360, 300));
+        lines.motion(globe_drive_move(pool, words, 899, 0.0, 360, 360));
+        lines.motion(globe_drive_move(null(), 0, 899, 0.0, 360, 359));
+    }
+    lines.motion(globe_drive_builtin_move(399, 0.0, 4096, 4095));
+    lines.motion(globe_drive_builtin_move(399, 0.0, 0, u32::MAX));
+    lines.motion(globe_drive_builtin_move(399, 157788000001.0, 2, 2));
+    lines.motion(globe_drive_builtin_move(399, 157788000001.0, 2, 1));
 }
 
 /// The calls about strings of `calls.c`, in its order.
@@ -164,6 +205,7 @@ fn calls() -> String {
         lines.axes(globe_radii(pool, words, 399));
         lines.axes(globe_builtin_radii(399));
         lines.axes(globe_builtin_radii(10));
+        drive_calls(&mut lines, pool);
 
         lines.reply(globe_make_empty(null_mut(), 0));
         lines.counts(globe_totals(null(), 0));
@@ -199,13 +241,16 @@ fn numbers_of_the_answers() {
     let numbers: Vec<&str> = lines
         .lines()
         .filter_map(|line| line.split(' ').nth(1))
-        .take(54)
+        .take(68)
         .collect();
     let expected = [
         "15", "15", "0", "0", "1", // faulty texts
         "6", "4", "17", "18", "19", "20", "21", // queries
-        "0", "14", "0", "13", "0", "0", "9", "10", "0", "10", "0", "10", "0", "10", "15", "15",
-        "0", "13", "14", "0", // strings
+        "0", "14", "0", "13", "0", "0", "9", "10", "0", "10", "0", "10", "0",
+        "10", // the drive
+        "0", "25", "15", "0", "25", "10", "0", "0", "26", "15", "0", "25", "26", "9",
+        // empty slices
+        "15", "15", "0", "13", "14", "0", // strings
         "0", "0", "0", "14", "13", "13", "13", "16", "13", "13", "16", "0", "13", "15", "0", "16",
         "0", // removals
         "8", "0", "0", "0", "0",
@@ -217,7 +262,7 @@ fn numbers_of_the_answers() {
 fn places_of_the_answers() {
     let lines = calls();
     let faulty = 5..5 + FAULTY.len();
-    for (answer, line) in lines.lines().take(54).enumerate() {
+    for (answer, line) in lines.lines().take(68).enumerate() {
         let told: Vec<&str> = line.split(' ').skip(1).take(3).collect();
         if faulty.contains(&answer) {
             let (_, expected) = FAULTY[answer - faulty.start];

@@ -1,4 +1,4 @@
-//! The example in C compiles without a warning, and prints what is kept beside it.
+//! The examples in C compile without a warning, and print what is kept beside them.
 
 mod common;
 
@@ -43,4 +43,38 @@ fn the_example_prints_what_is_kept() {
     let negative = common::run(&program, &["examples/kernels/moon.tpc", "-31"]);
     assert!(!negative.status.success());
     assert!(common::written(&negative).contains("refused 10 (UNKNOWN BODY)"));
+}
+
+/// The shell of the drive's example goes once round in a day, in single short moves.
+#[test]
+fn the_drive_never_jumps() {
+    let program = common::compile(&common::top().join("examples/drive.c"));
+    let output = common::run(&program, &[]);
+    assert!(output.status.success());
+    let printed = common::written(&output);
+    let kept = fs::read_to_string(common::top().join("examples/drive.stdout"))
+        .expect("the kept output is read");
+    assert_eq!(printed, kept);
+
+    let lines = || printed.lines().skip(1);
+    let numbers = |line: &str| -> Vec<i64> {
+        let words = line.split(|c: char| !c.is_ascii_digit() && c != '-' && c != '+');
+        words.filter_map(|word| word.parse().ok()).collect()
+    };
+    let first = numbers(printed.lines().next().expect("a first line"));
+    let start = *first.last().expect("it ends with the position");
+    let mut shell = start;
+    for line in lines() {
+        let [.., target, steps] = numbers(line)[..] else {
+            panic!("{line}");
+        };
+        assert!(steps.abs() <= 9, "{line}");
+        shell = (shell + steps).rem_euclid(200);
+        assert_eq!(shell, target, "{line}");
+    }
+    assert_eq!(lines().count(), 24);
+
+    let refused = common::run(&program, &["499", "4097"]);
+    assert!(!refused.status.success());
+    assert!(String::from_utf8_lossy(&refused.stderr).contains("refused 25"));
 }

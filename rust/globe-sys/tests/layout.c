@@ -48,6 +48,17 @@ int main(void) {
     OFFSET(globe_axes, a);
     OFFSET(globe_axes, b);
     OFFSET(globe_axes, c);
+    SIZE(globe_position);
+    OFFSET(globe_position, number);
+    OFFSET(globe_position, line);
+    OFFSET(globe_position, column);
+    OFFSET(globe_position, position);
+    SIZE(globe_motion);
+    OFFSET(globe_motion, number);
+    OFFSET(globe_motion, line);
+    OFFSET(globe_motion, column);
+    OFFSET(globe_motion, target);
+    OFFSET(globe_motion, move);
     NUMBER(GLOBE_POOL_WORDS);
     NUMBER(GLOBE_TEXT_BYTES);
     NUMBER(GLOBE_VALUES);
@@ -75,5 +86,7 @@ int main(void) {
     NUMBER(GLOBE_REST_OF_LINE);
     NUMBER(GLOBE_BAD_DEGREE);
     NUMBER(GLOBE_BAD_RADIUS);
+    NUMBER(GLOBE_BAD_RING);
+    NUMBER(GLOBE_BAD_POSITION);
     return 0;
 }

@@ -34,13 +34,19 @@ fn types_and_constants_are_the_header_s() {
     lay_out!(lines, globe_oriented:
         number line column ra dec w m11 m12 m13 m21 m22 m23 m31 m32 m33);
     lay_out!(lines, globe_axes: number line column a b c);
+    lay_out!(lines, globe_position: number line column position);
+    // `move` is a word of Rust, and written apart from it only where a field is named.
+    let mut motion = String::new();
+    lay_out!(motion, globe_motion: number line column target r#move);
+    lines += &motion.replace("r#", "");
     number!(lines: GLOBE_POOL_WORDS GLOBE_TEXT_BYTES GLOBE_VALUES GLOBE_STRING);
     number!(lines: GLOBE_OK GLOBE_LABEL_HELD GLOBE_TEXT_TOO_LONG GLOBE_LINE_TOO_LONG);
     number!(lines: GLOBE_BAD_BYTE GLOBE_NUMBER GLOBE_NO_ROOM GLOBE_NOT_HELD);
     number!(lines: GLOBE_EPOCH GLOBE_UNKNOWN_BODY GLOBE_INCOMPLETE GLOBE_WRONG_COUNT);
     number!(lines: GLOBE_NO_VARIABLE GLOBE_SHORT_BUFFER GLOBE_DAMAGED_POOL GLOBE_MIXED_KIND);
     number!(lines: GLOBE_BAD_NAME GLOBE_NO_OPERATOR GLOBE_BAD_VALUE GLOBE_OPEN_LIST);
-    number!(lines: GLOBE_REST_OF_LINE GLOBE_BAD_DEGREE GLOBE_BAD_RADIUS);
+    number!(lines: GLOBE_REST_OF_LINE GLOBE_BAD_DEGREE GLOBE_BAD_RADIUS GLOBE_BAD_RING);
+    number!(lines: GLOBE_BAD_POSITION);
 
     let program = common::compile(Path::new("tests/layout.c"));
     assert_eq!(lines, common::written(&common::run(&program, &[])));
