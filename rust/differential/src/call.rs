@@ -37,6 +37,28 @@ pub enum Call<'a> {
     BuiltinRadii {
         body: u32,
     },
+    Position {
+        body: u32,
+        epoch: f64,
+        ring: u32,
+    },
+    BuiltinPosition {
+        body: u32,
+        epoch: f64,
+        ring: u32,
+    },
+    Move {
+        body: u32,
+        epoch: f64,
+        ring: u32,
+        present: u32,
+    },
+    BuiltinMove {
+        body: u32,
+        epoch: f64,
+        ring: u32,
+        present: u32,
+    },
 }
 
 impl Call<'_> {
@@ -55,8 +77,10 @@ pub struct Answer {
     pub number: u32,
     pub line: u32,
     pub column: u32,
-    /// What a fetch or totals count.
+    /// What a fetch or totals count, or where a motor should stand.
     pub counts: [u32; 3],
+    /// The move of a motor.
+    pub steps: i32,
     /// The bits of an orientation or of radii.
     pub bits: [u64; 12],
 }
@@ -75,6 +99,15 @@ impl Answer {
     /// The same with counts.
     pub fn with_counts(self, counts: [u32; 3]) -> Answer {
         Answer { counts, ..self }
+    }
+
+    /// The same with a motor's target and move.
+    pub fn with_motion(self, target: u32, steps: i32) -> Answer {
+        Answer {
+            counts: [target, 0, 0],
+            steps,
+            ..self
+        }
     }
 
     /// The same with the bits of doubles.
@@ -117,6 +150,27 @@ impl fmt::Display for Call<'_> {
             }
             Call::Radii { body } => write!(f, "radii of {body}"),
             Call::BuiltinRadii { body } => write!(f, "built-in radii of {body}"),
+            Call::Position { body, epoch, ring } => {
+                write!(f, "position of {body} at {epoch:?} on {ring}")
+            }
+            Call::BuiltinPosition { body, epoch, ring } => {
+                write!(f, "built-in position of {body} at {epoch:?} on {ring}")
+            }
+            Call::Move {
+                body,
+                epoch,
+                ring,
+                present,
+            } => write!(f, "move of {body} at {epoch:?} on {ring} from {present}"),
+            Call::BuiltinMove {
+                body,
+                epoch,
+                ring,
+                present,
+            } => write!(
+                f,
+                "built-in move of {body} at {epoch:?} on {ring} from {present}"
+            ),
         }
     }
 }

@@ -8,6 +8,7 @@ mod call;
 pub mod damage;
 pub mod decimals;
 pub mod degrees;
+pub mod drive;
 mod epochs;
 pub mod histories;
 pub mod kernels;

@@ -1,9 +1,11 @@
 //! The library's side of a call, straight through its C face.
 
 use globe_sys::{
-    globe_axes, globe_builtin_orientation, globe_builtin_radii, globe_clear, globe_fetch,
-    globe_fetch_string, globe_fetched, globe_load, globe_make_empty, globe_orientation,
-    globe_oriented, globe_radii, globe_remove, globe_reply, globe_totals,
+    globe_axes, globe_builtin_orientation, globe_builtin_radii, globe_clear,
+    globe_drive_builtin_move, globe_drive_builtin_position, globe_drive_move, globe_drive_position,
+    globe_fetch, globe_fetch_string, globe_fetched, globe_load, globe_make_empty, globe_motion,
+    globe_orientation, globe_oriented, globe_position, globe_radii, globe_remove, globe_reply,
+    globe_totals,
 };
 
 use crate::buffers::Buffers;
@@ -49,6 +51,24 @@ pub fn answer(call: &Call, pool: &mut [u64], buffers: &mut Buffers) -> Answer {
             }
             Call::Radii { body } => axes(globe_radii(memory, words, body)),
             Call::BuiltinRadii { body } => axes(globe_builtin_radii(body)),
+            Call::Position { body, epoch, ring } => {
+                placed(globe_drive_position(memory, words, body, epoch, ring))
+            }
+            Call::BuiltinPosition { body, epoch, ring } => {
+                placed(globe_drive_builtin_position(body, epoch, ring))
+            }
+            Call::Move {
+                body,
+                epoch,
+                ring,
+                present,
+            } => moved(globe_drive_move(memory, words, body, epoch, ring, present)),
+            Call::BuiltinMove {
+                body,
+                epoch,
+                ring,
+                present,
+            } => moved(globe_drive_builtin_move(body, epoch, ring, present)),
         }
     }
 }
@@ -70,4 +90,12 @@ fn oriented(o: globe_oriented) -> Answer {
 
 fn axes(x: globe_axes) -> Answer {
     Answer::of(x.number, x.line, x.column).with_doubles(&[x.a, x.b, x.c])
+}
+
+fn placed(p: globe_position) -> Answer {
+    Answer::of(p.number, p.line, p.column).with_motion(p.position, 0)
+}
+
+fn moved(m: globe_motion) -> Answer {
+    Answer::of(m.number, m.line, m.column).with_motion(m.target, m.r#move)
 }

@@ -3,7 +3,7 @@
 use std::fmt;
 
 /// Success and the refusals, up to the largest number.
-const NUMBERS: usize = 25;
+const NUMBERS: usize = 27;
 
 /// Counts of answers by their number.
 #[derive(Clone, Copy, Debug, Default)]

@@ -2,6 +2,7 @@
 
 use twin::answers::{orientation, radii};
 use twin::builtin::{builtin_orientation, builtin_radii};
+use twin::drive::{motion, position, Motion, Source};
 use twin::pool::{clear, fetch, fetch_string, load, make_empty, remove, totals};
 use twin::refusal::{Refusal, Refused};
 use twin::rotation::Orientation;
@@ -30,6 +31,24 @@ pub fn answer(call: &Call, pool: &mut [u64], buffers: &mut Buffers) -> Answer {
         Call::BuiltinOrientation { body, epoch } => oriented(builtin_orientation(body, epoch)),
         Call::Radii { body } => axes(radii(pool, body)),
         Call::BuiltinRadii { body } => axes(builtin_radii(body)),
+        Call::Position { body, epoch, ring } => {
+            placed(position(Source::Pool(pool), body, epoch, ring))
+        }
+        Call::BuiltinPosition { body, epoch, ring } => {
+            placed(position(Source::Builtin, body, epoch, ring))
+        }
+        Call::Move {
+            body,
+            epoch,
+            ring,
+            present,
+        } => moved(motion(Source::Pool(pool), body, epoch, ring, present)),
+        Call::BuiltinMove {
+            body,
+            epoch,
+            ring,
+            present,
+        } => moved(motion(Source::Builtin, body, epoch, ring, present)),
     }
 }
 
@@ -58,5 +77,17 @@ fn oriented(result: Result<Orientation, Refusal>) -> Answer {
 fn axes(result: Result<[f64; 3], Refusal>) -> Answer {
     answered(result.map_err(Refused::from), |radii| {
         Answer::default().with_doubles(&radii)
+    })
+}
+
+fn placed(result: Result<u32, Refusal>) -> Answer {
+    answered(result.map_err(Refused::from), |position| {
+        Answer::default().with_motion(position, 0)
+    })
+}
+
+fn moved(result: Result<Motion, Refusal>) -> Answer {
+    answered(result.map_err(Refused::from), |motion| {
+        Answer::default().with_motion(motion.target, motion.steps)
     })
 }

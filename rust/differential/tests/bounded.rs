@@ -5,8 +5,8 @@ use std::io::{self, Write};
 use std::path::Path;
 
 use differential::{
-    damage, decimals, degrees, histories, kernels, long_numbers, orientations, radii, strings,
-    texts, Random, Tally,
+    damage, decimals, degrees, drive, histories, kernels, long_numbers, orientations, radii,
+    strings, texts, Random, Tally,
 };
 
 const SEED: u64 = 2000;
@@ -91,6 +91,16 @@ fn radii_that_are_replaced() {
     let tally = radii::run(&mut Random::new(SEED), 20_000);
     report("radii that are replaced", &tally);
     tally.expect([0, 12, 24], LEAST_AT_HOME);
+}
+
+#[test]
+fn positions_and_moves() {
+    let tally = drive::run_marked(&mut Random::new(SEED));
+    report("positions and moves on every ring", &tally);
+    tally.expect([0], 60_000);
+    let tally = drive::run(&mut Random::new(SEED), 10_000);
+    report("positions and moves", &tally);
+    tally.expect([0, 9, 10, 15, 25, 26], LEAST_AT_HOME);
 }
 
 #[test]

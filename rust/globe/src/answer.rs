@@ -23,3 +23,13 @@ pub struct Totals {
     /// The values of all statements, numbers and strings.
     pub values: usize,
 }
+
+/// Where a motor should stand on its ring, and its way there.
+#[derive(Clone, Copy, Debug, PartialEq, Eq)]
+pub struct Motion {
+    /// The position, counted from 0.
+    pub target: u32,
+    /// So many positions forward, or back where it is negative: the shorter way round, forward if
+    /// both are as long, and 0 exactly if the motor stands there already.
+    pub steps: i32,
+}

@@ -7,7 +7,7 @@
 
 use globe_sys as sys;
 
-use crate::answer::{Orientation, Totals};
+use crate::answer::{Motion, Orientation, Totals};
 use crate::refusal::{Refusal, Refused};
 
 pub fn pool_words() -> usize {
@@ -108,6 +108,32 @@ pub fn builtin_radii(body: u32) -> Result<[f64; 3], Refused> {
     axes(sys::globe_builtin_radii(body))
 }
 
+pub fn position(pool: &[u64], body: u32, epoch: f64, ring: u32) -> Result<u32, Refused> {
+    let words = pool.len();
+    // Safety: see above.
+    placed(unsafe { sys::globe_drive_position(pool.as_ptr(), words, body, epoch, ring) })
+}
+
+pub fn builtin_position(body: u32, epoch: f64, ring: u32) -> Result<u32, Refused> {
+    placed(sys::globe_drive_builtin_position(body, epoch, ring))
+}
+
+pub fn motion(
+    pool: &[u64],
+    body: u32,
+    epoch: f64,
+    ring: u32,
+    present: u32,
+) -> Result<Motion, Refused> {
+    let words = pool.len();
+    // Safety: see above.
+    moved(unsafe { sys::globe_drive_move(pool.as_ptr(), words, body, epoch, ring, present) })
+}
+
+pub fn builtin_motion(body: u32, epoch: f64, ring: u32, present: u32) -> Result<Motion, Refused> {
+    moved(sys::globe_drive_builtin_move(body, epoch, ring, present))
+}
+
 /// Nothing if the number is that of success, else the refusal that it stands for.
 fn accepted(number: u32, line: u32, column: u32) -> Result<(), Refused> {
     if number == sys::GLOBE_OK {
@@ -141,4 +167,17 @@ fn oriented(o: sys::globe_oriented) -> Result<Orientation, Refused> {
 fn axes(x: sys::globe_axes) -> Result<[f64; 3], Refused> {
     accepted(x.number, x.line, x.column)?;
     Ok([x.a, x.b, x.c])
+}
+
+fn placed(p: sys::globe_position) -> Result<u32, Refused> {
+    accepted(p.number, p.line, p.column)?;
+    Ok(p.position)
+}
+
+fn moved(m: sys::globe_motion) -> Result<Motion, Refused> {
+    accepted(m.number, m.line, m.column)?;
+    Ok(Motion {
+        target: m.target,
+        steps: m.r#move,
+    })
 }

@@ -37,6 +37,17 @@
 //! assert_eq!((refused.line, refused.column), (3, 1));
 //! println!("{refused}");
 //! ```
+//!
+//! A [`Ring`] turns a meridian into the position of a motor, and tells the shortest way there:
+//!
+//! ```
+//! let ring = globe::Ring::new(200)?;
+//! let noon = ring.position(globe::Source::Builtin, 399, 0.0)?;
+//! assert_eq!(noon, 105);
+//! let motion = ring.step_from(noon, globe::Source::Builtin, 399, 3_600.0)?;
+//! assert_eq!((motion.target, motion.steps), (113, 8));
+//! # Ok::<(), globe::Refused>(())
+//! ```
 #![no_std]
 #![deny(missing_docs)]
 #![deny(unsafe_code)]
@@ -47,10 +58,12 @@ mod answer;
 mod face;
 mod pool;
 mod refusal;
+mod ring;
 
-pub use answer::{Orientation, Totals};
+pub use answer::{Motion, Orientation, Totals};
 pub use pool::Pool;
 pub use refusal::{Refusal, Refused};
+pub use ring::{Ring, Source};
 
 /// The Rust programs of the guide, run as tests.
 #[cfg(doctest)]

@@ -59,11 +59,15 @@ pub enum Refusal {
     BadDegree,
     /// 24: a radius from a pool is not greater than 0.
     BadRadius,
+    /// 25: a motor's ring has fewer than 2 positions, or more than 4,096.
+    BadRing,
+    /// 26: the present position is none of the ring's.
+    BadPosition,
 }
 
 impl Refusal {
     /// All refusals, in the order of their numbers. None has the number 5 or 22.
-    pub const ALL: [Refusal; 22] = [
+    pub const ALL: [Refusal; 24] = [
         Refusal::LabelHeld,
         Refusal::TextTooLong,
         Refusal::LineTooLong,
@@ -86,6 +90,8 @@ impl Refusal {
         Refusal::RestOfLine,
         Refusal::BadDegree,
         Refusal::BadRadius,
+        Refusal::BadRing,
+        Refusal::BadPosition,
     ];
 
     /// The number that the library gives for it.
@@ -113,6 +119,8 @@ impl Refusal {
             Refusal::RestOfLine => sys::GLOBE_REST_OF_LINE,
             Refusal::BadDegree => sys::GLOBE_BAD_DEGREE,
             Refusal::BadRadius => sys::GLOBE_BAD_RADIUS,
+            Refusal::BadRing => sys::GLOBE_BAD_RING,
+            Refusal::BadPosition => sys::GLOBE_BAD_POSITION,
         }
     }
 
@@ -141,6 +149,8 @@ impl Refusal {
             Refusal::RestOfLine => "REST OF LINE",
             Refusal::BadDegree => "BAD DEGREE",
             Refusal::BadRadius => "BAD RADIUS",
+            Refusal::BadRing => "BAD RING",
+            Refusal::BadPosition => "BAD POSITION",
         }
     }
 
@@ -250,6 +260,15 @@ impl Refusal {
             Refusal::BadRadius => {
                 "a radius of the body is 0 or negative; look it up and mend the text, or load a \
                  later one that gives BODYn_RADII anew with ="
+            }
+            Refusal::BadRing => {
+                "a motor's ring has 2 to 4,096 positions in a whole turn; give their number, not \
+                 that of the last one, and gear a finer motor down to 4,096"
+            }
+            Refusal::BadPosition => {
+                "the present position is none of the ring's, which are counted from 0; take a \
+                 counter that runs on modulo the ring's number, and mind that a negative one, \
+                 passed as unsigned, is too large"
             }
         }
     }

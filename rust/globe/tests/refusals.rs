@@ -1,7 +1,7 @@
 //! Each refusal, met through the safe crate: its number, its line and column, its words, and that a
 //! refused call changes nothing.
 
-use globe::{builtin_orientation, Pool, Refusal, Refused};
+use globe::{builtin_orientation, Pool, Refusal, Refused, Ring, Source};
 
 const BODY: &str = "\\begindata\nBODY1_POLE_RA = 1\nBODY1_POLE_DEC = 2\n";
 
@@ -207,9 +207,31 @@ fn of_every_call_on_a_damaged_pool() {
     assert_eq!(short.make_empty(), Err(damaged));
 }
 
+/// 25, then 26, then those of the orientation.
+#[test]
+fn of_the_drive() {
+    for positions in [0, 1, 4_097, u32::MAX] {
+        assert_eq!(Ring::new(positions), Err(alone(Refusal::BadRing)));
+    }
+    let ring = Ring::new(2).unwrap();
+    let damaged = Pool::from_words(Box::new([0; 3]));
+    for present in [2, 3, u32::MAX] {
+        let moved = ring.step_from(present, &damaged, 0, f64::NAN);
+        assert_eq!(moved, Err(alone(Refusal::BadPosition)));
+    }
+    let asked = ring.position(&damaged, 0, f64::NAN);
+    assert_eq!(asked, Err(alone(Refusal::DamagedPool)));
+    let moved = ring.step_from(1, &damaged, 0, f64::NAN);
+    assert_eq!(moved, Err(alone(Refusal::DamagedPool)));
+    let moved = ring.step_from(1, Source::Builtin, 0, f64::NAN);
+    assert_eq!(moved, Err(alone(Refusal::Epoch)));
+    let asked = ring.position(&Pool::new(), 399, 0.0);
+    assert_eq!(asked, Err(alone(Refusal::UnknownBody)));
+}
+
 #[test]
 fn numbers_and_words() {
-    let numbers = (1..=24).filter(|number| ![5, 22].contains(number));
+    let numbers = (1..=26).filter(|number| ![5, 22].contains(number));
     assert!(Refusal::ALL.map(Refusal::number).into_iter().eq(numbers));
     for refusal in Refusal::ALL {
         let shown = alone(refusal).to_string();

@@ -6,14 +6,14 @@ use std::process::ExitCode;
 use std::time::{Duration, Instant};
 
 use differential::{
-    damage, decimals, degrees, histories, kernels, long_numbers, orientations, radii, strings,
-    texts, Random, Tally,
+    damage, decimals, degrees, drive, histories, kernels, long_numbers, orientations, radii,
+    strings, texts, Random, Tally,
 };
 
 /// One kind of comparison: its name, what it runs, and how much of it in a round.
 type Kind = (&'static str, fn(&mut Random, usize) -> Tally, usize);
 
-const KINDS: [Kind; 11] = [
+const KINDS: [Kind; 12] = [
     ("generated texts", texts::run, 20_000),
     ("calls of histories", histories::run, 1_000),
     ("orientations by pools", orientations::run_on_pools, 20_000),
@@ -27,6 +27,7 @@ const KINDS: [Kind; 11] = [
     ("long numbers", long_numbers::run, 200_000),
     ("strings in quotes", strings::run, 10_000),
     ("radii that are replaced", radii::run, 2_000),
+    ("positions and moves", drive::run, 2_000),
     ("calls on changed pools", damage::run, 1_000),
     ("calls on kernels", kernels::run, 10),
 ];
