@@ -1,4 +1,4 @@
-// A line for each answer: the question, 0 and what is answered, or the refusal's number.
+// A line for each answer: the question, 0 and what is answered, or the refusal's number. A move is told as a double, which has a sign.
 use drive::answer::Moved;
 use drive::answer::Placed;
 use drive::calls;
@@ -30,7 +30,7 @@ pub fn step(code: u32, epoch: f64, ring: u32, present: u32) {
         Moved::To(target, way) => {
             print::field(0);
             print::field(target as u64);
-            signed(way);
+            print::double_field(way as f64);
         }
         Moved::Refused(r) => refused(r),
     }
@@ -45,15 +45,4 @@ fn asked(code: u32, epoch: f64, ring: u32) {
 
 fn refused(refusal: Refusal) {
     print::field(refusal::number(refusal) as u64);
-}
-
-// One more field of a line: a number with its sign, if it is below 0.
-fn signed(n: i32) {
-    if n < 0 {
-        print::space();
-        print::bytes(b"-");
-        print::decimal((0 - (n as i64)) as u64);
-    } else {
-        print::field(n as u64);
-    }
 }

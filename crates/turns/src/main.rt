@@ -19,40 +19,40 @@ const RINGS: [u32; 12] = [2, 3, 35, 39, 200, 360, 4095, 4096, 0, 1, 4097, 429496
 const PRESENTS: [u32; 7] = [0, 1, 19, 180, 2048, 4095, 4294967295];
 
 fn main() {
-    bodies(&CODES, &EPOCHS);
+    bodies(&CODES, &EPOCHS, &RINGS, &PRESENTS);
 }
 
 // The lines of every code.
-fn bodies(codes: &[u32], epochs: &[f64]) {
+fn bodies(codes: &[u32], epochs: &[f64], sizes: &[u32], presents: &[u32]) {
     let mut i = 0;
     while i < codes.len() {
-        body(codes[i], epochs);
+        body(codes[i], epochs, sizes, presents);
         i += 1;
     }
 }
 
 // The lines of every epoch and of NaN, which is no constant.
-fn body(code: u32, epochs: &[f64]) {
-    finite(code, epochs);
-    rings(code, 0.0 / 0.0, &RINGS);
+fn body(code: u32, epochs: &[f64], sizes: &[u32], presents: &[u32]) {
+    finite(code, epochs, sizes, presents);
+    rings(code, 0.0 / 0.0, sizes, presents);
 }
 
 // The lines of every epoch.
-fn finite(code: u32, epochs: &[f64]) {
+fn finite(code: u32, epochs: &[f64], sizes: &[u32], presents: &[u32]) {
     let mut i = 0;
     while i < epochs.len() {
-        rings(code, epochs[i], &RINGS);
+        rings(code, epochs[i], sizes, presents);
         i += 1;
     }
 }
 
 // The lines of every ring.
-fn rings(code: u32, epoch: f64, sizes: &[u32]) {
+fn rings(code: u32, epoch: f64, sizes: &[u32], presents: &[u32]) {
     let mut i = 0;
     while i < sizes.len() {
         let ring = sizes[i];
         answers::position(code, epoch, ring);
-        moves(code, epoch, ring, &PRESENTS);
+        moves(code, epoch, ring, presents);
         i += 1;
     }
 }

@@ -1,5 +1,5 @@
 //! `twin turns`: positions and moves of the globe drive, by the built-in source, at chosen bodies,
-//! epochs and rings.
+//! epochs and rings. A move is told as a double, which has a sign.
 
 use std::io::{self, Write};
 
@@ -56,7 +56,10 @@ fn write_move(
 ) -> io::Result<()> {
     write!(out, "move {code} {} {ring} {present} ", bits(epoch))?;
     match motion(Source::Builtin, code, epoch, ring, present) {
-        Ok(motion) => writeln!(out, "0 {} {}", motion.target, motion.steps),
+        Ok(motion) => {
+            let steps = bits(f64::from(motion.steps));
+            writeln!(out, "0 {} {steps}", motion.target)
+        }
         Err(refusal) => writeln!(out, "{}", refusal.number()),
     }
 }
