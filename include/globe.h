@@ -1,6 +1,6 @@
 /*
  * globe.h: where the Sun, the planets and their satellites point, from SPICE text PCK kernels or
- * from a built-in table.
+ * from a built-in table, and where a motor stands that turns a globe there.
  *
  * The pool. A pool holds up to 16 texts, each under a label, with 512 statements and 3,072 values,
  * numbers and strings together, whose strings have 8,192 bytes. It is memory of GLOBE_POOL_WORDS

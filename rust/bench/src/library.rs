@@ -37,6 +37,10 @@ pub fn orientation(pool: &[u64], body: u32, epoch: f64) -> sys::globe_oriented {
     unsafe { sys::globe_orientation(pool.as_ptr(), pool.len(), body, epoch) }
 }
 
+pub fn motion(pool: &[u64], body: u32, epoch: f64, ring: u32, present: u32) -> sys::globe_motion {
+    unsafe { sys::globe_drive_move(pool.as_ptr(), pool.len(), body, epoch, ring, present) }
+}
+
 pub fn radii(pool: &[u64], body: u32) -> sys::globe_axes {
     unsafe { sys::globe_radii(pool.as_ptr(), pool.len(), body) }
 }

@@ -1,6 +1,7 @@
 //! `cargo run --release -p bench`: the library's times against those of the twin doing the same
 //! work, and what the library asks of a small machine, as the tables of docs/BENCHMARKS.md.
 
+mod drive;
 mod facts;
 mod library;
 mod numbers;

@@ -111,9 +111,38 @@ fn probes(lent: &mut Lent) -> Vec<Probe> {
         },
         Probe {
             takes_pool: false,
-            ..telling("radii, built in", sys::globe_builtin_radii as _, table)
+            ..telling(
+                "radii, built in",
+                sys::globe_builtin_radii as _,
+                table.clone(),
+            )
+        },
+        replying("position", sys::globe_drive_position as _, on_ring(&bodies)),
+        telling("move", sys::globe_drive_move as _, on_ring(&bodies)),
+        Probe {
+            takes_pool: false,
+            ..replying(
+                "position, built in",
+                sys::globe_drive_builtin_position as _,
+                on_ring(&table),
+            )
+        },
+        Probe {
+            takes_pool: false,
+            ..telling(
+                "move, built in",
+                sys::globe_drive_builtin_move as _,
+                on_ring(&table),
+            )
         },
     ]
+}
+
+/// The bodies with the largest ring and a present position of it, which a position does not look at.
+fn on_ring(bodies: &[Vec<usize>]) -> Vec<Vec<usize>> {
+    let mut all = bodies.to_vec();
+    all.iter_mut().for_each(|body| body.extend([4_096, 1_000]));
+    all
 }
 
 /// A call on a pool that answers in registers.

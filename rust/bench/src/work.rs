@@ -1,5 +1,5 @@
 //! What is measured: each call, on pools that hold 1, 6 and 16 texts, then on a pool full of strings,
-//! and then the reading of a number. Questions are about the text that was loaded first, and removals
+//! and then the reading of a number; the drive's moves stand beside the orientations that they ask for. Questions are about the text that was loaded first, and removals
 //! take that one out, so that all others stand after it.
 
 use std::hint::black_box;
@@ -8,6 +8,7 @@ use globe_sys::GLOBE_OPEN_LIST;
 use twin::layout::WORDS;
 use twin::{answers, builtin, pool};
 
+use crate::drive;
 use crate::library;
 use crate::numbers;
 use crate::strings;
@@ -16,7 +17,7 @@ use crate::timing::{medians, Restore, Side};
 
 /// The most that a call may take, in times of the twin.
 pub const LOAD_GOAL: f64 = 2.0;
-const ORIENTATION_GOAL: f64 = 1.5;
+pub const ORIENTATION_GOAL: f64 = 1.5;
 const OTHER_GOAL: f64 = 3.0;
 
 /// The texts that are held, one after another.
@@ -79,6 +80,7 @@ pub fn measured() -> Vec<Row> {
     rows.extend(HELD_OF_DEGREE.map(oriented_by_squares));
     rows.push(oriented_by_table());
     rows.push(sized_by_table());
+    rows.extend(drive::measured());
     rows.extend(strings::measured());
     rows.extend(numbers::measured());
     rows
