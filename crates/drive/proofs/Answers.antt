@@ -19,9 +19,7 @@ use Rattle.globe.specs.declared.source.Source.{Source}
 use Rattle.drive.specs.Ring.{ringed, Position}
 use Rattle.drive.specs.Move.{Move}
 use Rattle.drive.specs.Calls.{PlacedBy, Places, MovedBy, Steps}
-use Rattle.drive.specs.declared.answer.Placed.{Placed}
 use Rattle.drive.specs.declared.answer.Placed.the-variants as P
-use Rattle.drive.specs.declared.answer.Moved.{Moved}
 use Rattle.drive.specs.declared.answer.Moved.the-variants as M
 
 clash : {X : Type 0} → _≡_ {A = ℕ} 0 1 → X

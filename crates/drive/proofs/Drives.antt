@@ -1,24 +1,21 @@
 -- What is claimed of the drive: existence is the search down from the last position and the shorter of two ways, uniqueness is that no larger
 -- position and no shorter way is left; the range of a meridian is the library's promise. Assumes nothing.
-use Prim.Native.Nat.{ℕ, _≤_, _<_}
+use Prim.Native.Nat.{ℕ, _<_}
 use native.Mathlib.Omega.{arith}
-use mathlib.Core.Path.{_≡_, refl, sym, _∙_}
+use mathlib.Core.Path.{_≡_, refl}
 use mathlib.Core.Bool.{Bool, true, false}
 use mathlib.Core.List.{List}
 use borrow.Author.Tests.{leb-true, leb-false}
 use lib.Dec.{leb}
-use lib.IntN.{ℤ}
 use lib.Ieee.{Float}
-use Rattle.rotation.specs.declared.matrix.Orientation.{Orientation}
 use Rattle.rotation.specs.declared.matrix.Oriented.{Oriented}
 use Rattle.rotation.specs.declared.matrix.Oriented.the-variants as O
 use Rattle.globe.specs.Orientation.{orientationReply}
 use Rattle.globe.specs.declared.source.Source.{Source}
 use Rattle.promises.proofs.Given.{in-range}
-use Rattle.drive.specs.Ring.{ringed, Position}
-use Rattle.drive.specs.Move.{Move}
+use Rattle.drive.specs.Ring.{ringed}
 use Rattle.drive.specs.Calls.{Places, Steps}
-use Rattle.drive.specs.Claims.{ExactlyOne, OnePosition, OneMove, Moving, OneAnswer, InRing, InOrder, Drives}
+use Rattle.drive.specs.Claims.{OnePosition, OneMove, OneAnswer, InRing, InOrder, Drives}
 use Rattle.drive.specs.declared.answer.Placed.{Placed}
 use Rattle.drive.specs.declared.answer.Placed.the-variants as P
 use Rattle.drive.specs.declared.answer.Moved.{Moved}

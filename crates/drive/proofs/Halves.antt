@@ -1,13 +1,13 @@
 -- A move is no longer than half the ring, and forward where it is half of it: the two ways round make the ring together. A move of 0 is
 -- staying. Assumes nothing.
-use Prim.Native.Nat.{ℕ, zero, suc, _+_, _*_, _≤_, _<_}
+use Prim.Native.Nat.{ℕ, zero, suc, _*_, _≤_, _<_}
 use native.Mathlib.Omega.{arith}
 use mathlib.Core.Logic.{_↔_}
-use mathlib.Core.Path.{_≡_, refl, sym, ap, subst, _∙_}
+use mathlib.Core.Path.{_≡_, refl, subst}
 use mathlib.Core.Bool.{Bool, true, false}
 use borrow.Author.Tests.{leb-true, leb-false}
 use lib.Dec.{leb}
-use lib.IntN.{ℤ, pos, negsuc, negℤ, natAbs}
+use lib.IntN.{ℤ, pos, negℤ}
 use Rattle.drive.specs.Move.{Move, length, ahead}
 use Rattle.drive.proofs.Integers.{Around, straight, over, short, around, none}
 use Rattle.drive.proofs.Moves.{Ways, here, up, down, ways, forward-move, back-move, move-unique}

@@ -1,29 +1,27 @@
 -- The product rises with n: a position's angle is its fraction, rounded once, and rounding keeps the order. All of them are finite.
 -- Assumes nothing.
-use Prim.Native.Nat.{ℕ, zero, suc, _+_, _*_, _^_, _≤_, _<_}
-use mathlib.Core.Path.{_≡_, refl, sym, ap, subst, _∙_}
+use Prim.Native.Nat.{ℕ, zero, suc, _*_, _^_, _≤_, _<_}
+use mathlib.Core.Path.{_≡_, refl, sym, subst, _∙_}
 use mathlib.Core.Bool.{Bool, true, false, _&&_, _||_, true≢false}
-use mathlib.Core.Logic.{_⊎_, inl, inr}
-use native.Mathlib.Nat.{le-trans, le-of-eq, le-of-lt, lt-of-lt-of-le, mul-one, one-mul, mul-assoc, mul-le-mul-right, mul-le-mul-left, zero-mul}
+use mathlib.Core.Logic.{inl, inr}
+use native.Mathlib.Nat.{le-trans, le-of-eq, le-of-lt, mul-le-mul-right}
 use native.Mathlib.Omega.{arith}
-use borrow.Author.Tests.{ltb-true, eqb-true, eq-eqb}
+use borrow.Author.Tests.{ltb-true, eqb-true}
 use lib.Dec.{T, eqb, ltb, lit<, lit≤}
-use lib.IntN.{ℤ, pos}
-use lib.Pow.{pow-pos}
 use lib.Ieee.{Float, nan, inf, fin, binary64, low, up, down, round, ofInt, lt, le, eq}
 use lib.Ieee.Back.{round-whole}
 use lib.Ieee.Exact.{HasValue}
 use lib.Ieee.Fits.{down-pos, and-i, eq→eqb}
 use lib.Ieee.Order.{round-mono, le-of-values, transfer}
 use lib.Ieee.Positive.{through}
-use lib.Ieee.Scale.{finite, grid, overflow, round-val, round-under, round-same}
+use lib.Ieee.Scale.{finite, grid, round-val, round-under, round-same}
 use Rattle.plain.specs.Doubles.{printed, nought}
 use Rattle.plain.specs.Sizes.{Below}
 use Rattle.plain.proofs.Tests.{both, or-cases, is-false}
 use Rattle.plain.proofs.Rounding.{round-below}
 use Rattle.plain.proofs.Products.{mul-of-values, div-of-values}
 use Rattle.angle.specs.Range.{InTurn}
-use Rattle.drive.specs.Ring.{FEWEST, MOST, double, spacing, angleAt, reached}
+use Rattle.drive.specs.Ring.{MOST, double, spacing, angleAt, reached}
 
 is : (b : Bool) → T b → b ≡ true
 is true t = refl

@@ -15,9 +15,7 @@ use Rattle.globe.specs.declared.source.Source.{Source}
 use Rattle.drive.specs.Ring.{ringed, Position}
 use Rattle.drive.specs.Move.{Move, length}
 use Rattle.drive.specs.Calls.{Places, Steps}
-use Rattle.drive.specs.declared.answer.Placed.{Placed}
 use Rattle.drive.specs.declared.answer.Placed.the-variants as P
-use Rattle.drive.specs.declared.answer.Moved.{Moved}
 use Rattle.drive.specs.declared.answer.Moved.the-variants as M
 
 -- there is one of the kind, and no second

@@ -1,6 +1,5 @@
 -- Two cases that decide how the sentence is read: on a ring of 35 the product of 21 is above 216, which is its true multiple; on a ring of 39
 -- the product of 39 is not above the last double before 360, and only "below N" gives 38. Definitions only.
-use Prim.Native.Nat.{ℕ}
 use mathlib.Core.Path.{_≡_}
 use mathlib.Core.Bool.{true, false}
 use lib.Ieee.{Float, binary64, ofBits}

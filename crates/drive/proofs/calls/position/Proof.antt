@@ -1,9 +1,7 @@
 -- `position` meets its contract: each way out is one of its cases, and the meridian that is given is in the turn. Assumes nothing.
-use mathlib.Core.Path.{_≡_, sym, _∙_}
-use mathlib.Core.Bool.{true, false}
+use mathlib.Core.Path.{sym, _∙_}
 use borrow.Author.Needs.{needs}
 use borrow.Author.Tests.{not-true, not-false}
-use Rattle.drive.specs.Ring.{ringed}
 use Rattle.promises.proofs.Given.{in-range}
 use Rattle.drive.proofs.Answers.{place-no-ring, place-refused, place-at}
 use Rattle.drive.proofs.calls.position.Statement.{statement}
