@@ -27,6 +27,10 @@ const PM_AT: usize = VALUES_AT + 2;
 /// The last double before a turn is whole.
 const LAST: f64 = 359.99999999999994;
 
+/// Beside the rings of up to so many positions, those that are tried at every multiple.
+const WHOLE_TO: u32 = 128;
+const WHOLE: [u32; 4] = [360, 1000, MOST_POSITIONS - 1, MOST_POSITIONS];
+
 /// Numbers that no ring has.
 const NO_RINGS: [u32; 5] = [0, 1, MOST_POSITIONS + 1, 1 << 16, u32::MAX];
 
@@ -59,33 +63,36 @@ impl Globe {
         answer
     }
 
-    /// Asks both calls by the pool and counts them; the position.
+    /// Asks for a position and a move by the pool, and counts them; the position.
     fn drive(&mut self, (body, epoch): Asked, ring: u32, present: u32, tally: &mut Tally) -> u32 {
-        let placed = self.ask(&Call::Position { body, epoch, ring });
-        let moved = self.ask(&Call::Move {
+        let position = Call::Position { body, epoch, ring };
+        let motion = Call::Move {
             body,
             epoch,
             ring,
             present,
-        });
-        check(&placed, &moved, ring, present);
-        tally.add(placed.number);
-        tally.add(moved.number);
-        placed.counts[0]
+        };
+        self.ask_both([position, motion], ring, present, tally)
     }
 
     /// The same by the table.
     fn drive_by_table(&mut self, (body, epoch): Asked, ring: u32, present: u32, tally: &mut Tally) {
-        let placed = self.ask(&Call::BuiltinPosition { body, epoch, ring });
-        let moved = self.ask(&Call::BuiltinMove {
+        let position = Call::BuiltinPosition { body, epoch, ring };
+        let motion = Call::BuiltinMove {
             body,
             epoch,
             ring,
             present,
-        });
+        };
+        self.ask_both([position, motion], ring, present, tally);
+    }
+
+    fn ask_both(&mut self, calls: [Call; 2], ring: u32, present: u32, tally: &mut Tally) -> u32 {
+        let [placed, moved] = calls.map(|call| self.ask(&call));
         check(&placed, &moved, ring, present);
         tally.add(placed.number);
         tally.add(moved.number);
+        placed.counts[0]
     }
 }
 
@@ -100,15 +107,33 @@ pub fn run_marked(random: &mut Random) -> Tally {
     for ring in FEWEST_POSITIONS..=MOST_POSITIONS {
         let multiple = random.between(1, ring as usize - 1) as u32;
         for n in [ring - 1, multiple] {
-            for angle in around(f64::from(n) * (360.0 / f64::from(ring))) {
-                compare(&mut globe, random, angle, ring, &mut tally);
-            }
+            compare_around(&mut globe, random, n, ring, &mut tally);
         }
         for angle in [0.0, 216.0, LAST] {
             compare(&mut globe, random, angle, ring, &mut tally);
         }
     }
     tally
+}
+
+/// Every multiple of a ring's spacing, with the angles next to it, on all small rings and some large
+/// ones.
+pub fn run_multiples(random: &mut Random) -> Tally {
+    let mut tally = Tally::default();
+    let mut globe = Globe::new();
+    for ring in (FEWEST_POSITIONS..=WHOLE_TO).chain(WHOLE) {
+        for n in 0..ring {
+            compare_around(&mut globe, random, n, ring, &mut tally);
+        }
+    }
+    tally
+}
+
+/// Compares at a multiple of a ring's spacing, and at the angles next to it.
+fn compare_around(globe: &mut Globe, random: &mut Random, n: u32, ring: u32, tally: &mut Tally) {
+    for angle in around(f64::from(n) * (360.0 / f64::from(ring))) {
+        compare(globe, random, angle, ring, tally);
+    }
 }
 
 /// An angle, and the ones before and after it, as far as they are in the turn.

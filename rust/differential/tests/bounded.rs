@@ -98,6 +98,9 @@ fn positions_and_moves() {
     let tally = drive::run_marked(&mut Random::new(SEED));
     report("positions and moves on every ring", &tally);
     tally.expect([0], 60_000);
+    let tally = drive::run_multiples(&mut Random::new(SEED));
+    report("positions and moves at every multiple", &tally);
+    tally.expect([0], 100_000);
     let tally = drive::run(&mut Random::new(SEED), 10_000);
     report("positions and moves", &tally);
     tally.expect([0, 9, 10, 15, 25, 26], LEAST_AT_HOME);
