@@ -44,6 +44,7 @@ became R.NoOperator = split refl (omega arith) (omega arith)
 became R.BadValue = split refl (omega arith) (omega arith)
 became R.OpenList = split refl (omega arith) (omega arith)
 became R.RestOfLine = split refl (omega arith) (omega arith)
+became R.TextOpen = added refl (omega arith)
 became R.BadDegree = added refl (omega arith)
 became R.BadRadius = added refl (omega arith)
 became R.BadRing = added refl (omega arith)
@@ -78,7 +79,7 @@ later = R.UnknownBody ∷ R.Incomplete ∷ R.WrongCount ∷ R.NoVariable ∷ R.S
 
 -- from 22 on
 abbrev last : List Refusal
-last = R.LabelHeld ∷ R.BadDegree ∷ R.BadRadius ∷ R.BadRing ∷ R.BadPosition ∷ []
+last = R.TextOpen ∷ R.BadDegree ∷ R.BadRadius ∷ R.BadRing ∷ R.BadPosition ∷ []
 
 abbrev named : ℕ → Refusal
 named n = getD (first ++ later ++ last) n R.LabelHeld
@@ -104,6 +105,7 @@ named-back R.NoOperator = refl
 named-back R.BadValue = refl
 named-back R.OpenList = refl
 named-back R.RestOfLine = refl
+named-back R.TextOpen = refl
 named-back R.BadDegree = refl
 named-back R.BadRadius = refl
 named-back R.BadRing = refl

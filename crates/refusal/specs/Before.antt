@@ -28,6 +28,7 @@ numberBefore R.NoOperator = SYNTAX
 numberBefore R.BadValue = SYNTAX
 numberBefore R.OpenList = SYNTAX
 numberBefore R.RestOfLine = SYNTAX
+numberBefore R.TextOpen = 22
 numberBefore R.BadDegree = 23
 numberBefore R.BadRadius = 24
 numberBefore R.BadRing = 25

@@ -1,6 +1,6 @@
 -- "Success is number 0"; the table of "Refusal numbers", a line for each refusal, with document 02's "16 MIXED KIND" and "5 becomes 17 BAD
--- NAME, 18 NO OPERATOR, 19 BAD VALUE .., 20 OPEN LIST .., 21 REST OF LINE", so that 5 is not given any more, "23 BAD DEGREE",
--- "24 BAD RADIUS", "25 BAD RING" and "26 BAD POSITION". Definitions only.
+-- NAME, 18 NO OPERATOR, 19 BAD VALUE .., 20 OPEN LIST .., 21 REST OF LINE", so that 5 is not given any more, "22 TEXT OPEN",
+-- "23 BAD DEGREE", "24 BAD RADIUS", "25 BAD RING" and "26 BAD POSITION". Definitions only.
 use Prim.Native.Nat.{ℕ}
 use Rattle.refusal.specs.declared.Refusal.{Refusal}
 use Rattle.refusal.specs.declared.Refusal.the-variants as R
@@ -29,6 +29,7 @@ numberOf R.NoOperator = 18
 numberOf R.BadValue = 19
 numberOf R.OpenList = 20
 numberOf R.RestOfLine = 21
+numberOf R.TextOpen = 22
 numberOf R.BadDegree = 23
 numberOf R.BadRadius = 24
 numberOf R.BadRing = 25

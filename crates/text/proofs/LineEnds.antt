@@ -16,15 +16,9 @@ use Rattle.plain.specs.Runs.{run, skip, past}
 use Rattle.plain.proofs.Places.{past-after, past-within, take-past}
 use Rattle.plain.proofs.Runs.{drop-past}
 use Rattle.value.specs.Classes.{lineByte}
-use Rattle.text.specs.Lines.{before, atLF, lines, Cuts}
+use Rattle.text.specs.Lines.{before, atLF, withoutCR, lines, Cuts}
 
 -- ---- lists
-
--- bytes without a CR at their end
-abbrev pub withoutCR : List ℕ → List ℕ
-withoutCR [] = []
-withoutCR (b ∷ []) = if eqb b CR then [] else (b ∷ [])
-withoutCR (b ∷ c ∷ bs) = b ∷ withoutCR (c ∷ bs)
 
 -- a line of such bytes, by what follows them: an LF, or nothing
 abbrev pub lineOf : (bytes following : List ℕ) → List ℕ
@@ -61,7 +55,7 @@ first-of : (bs : List ℕ) → 0 < length bs → lines bs ≡ lineOf (run lineBy
 first-of [] h = absurd (not-suc-le-zero h)
 first-of (b ∷ bs) h = first-line b bs
 
-withoutCR-last : (r : List ℕ) (n : ℕ) → length r ≡ suc n → withoutCR r ≡ (if eqb (getD r n 0) CR then take n r else r)
+pub withoutCR-last : (r : List ℕ) (n : ℕ) → length r ≡ suc n → withoutCR r ≡ (if eqb (getD r n 0) CR then take n r else r)
 withoutCR-last [] n e = absurd (omega arith)
 withoutCR-last (b ∷ []) zero e = refl
 withoutCR-last (b ∷ []) (suc n) e = absurd (omega arith)

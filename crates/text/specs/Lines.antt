@@ -20,6 +20,12 @@ abbrev pub atLF : List ℕ → Bool
 atLF [] = false
 atLF (b ∷ bs) = eqb b LF
 
+-- "one CR just before it is dropped": the bytes before an LF, without a CR at their end
+abbrev pub withoutCR : List ℕ → List ℕ
+withoutCR [] = []
+withoutCR (b ∷ []) = if eqb b CR then [] else (b ∷ [])
+withoutCR (b ∷ c ∷ bs) = b ∷ withoutCR (c ∷ bs)
+
 unfoldable pub lines : List ℕ → List (List ℕ)
 lines [] = []
 lines (b ∷ bs) =

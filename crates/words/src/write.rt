@@ -14,6 +14,18 @@ pub fn store(m: &mut [u64], at: usize, w: u64)
     }
 }
 
+// Some words are written from a place on.
+pub fn put(m: &mut [u64], at: usize, ws: &[u64])
+    requires { ⌜ at + length (now ws) ≤ length (now m) ⌝ }
+    ensures { λ _. ⌜ now (m .exit) ≡ over at (now (ws .entry)) (now (m .entry)) ⌝ }
+{
+    let mut i = 0;
+    while i < ws.len() {
+        m[at + i] = ws[i];
+        i += 1;
+    }
+}
+
 // The n words from place `from` on are moved down to place `to`.
 pub fn shift(m: &mut [u64], to: usize, from: usize, n: usize)
     requires { ⌜ (to ≤ from) × (from + n ≤ length (now m)) ⌝ }

@@ -40,8 +40,8 @@ pub fn write_text(m: &mut [u64], pen: Pen, text: &[u8]) -> Pen
     last
 }
 
-// A line of an admitted text.
-fn write_line(m: &mut [u64], pen: Pen, reader: Reader, line: &[u8]) -> Turn
+// A line of an admitted text, or of an open one whose outcome is known.
+pub fn write_line(m: &mut [u64], pen: Pen, reader: Reader, line: &[u8]) -> Turn
     requires { ⌜ (length (now m) ≡ WORDS) × (Roomy pen (now line)) ⌝ }
     ensures { λ r. ⌜ Writes (answered reader (now (line .entry))) (page (now (m .entry)) pen) (now (m .exit)) r ⌝ }
 {
