@@ -1,5 +1,5 @@
 -- What a load and a removal leave in a memory: a text added at the end of every column and of the strings' bytes, and a text's gap
--- closed in all of them, with the totals written, are the changed state put. Assumes nothing.
+-- closed in all of them, with the front written, are the changed state put. Assumes nothing.
 use mathlib.Core.Path.{_≡_, refl, sym, ap, ap₂, subst, _∙_}
 use mathlib.Core.List.{List, [], _∷_, _++_}
 use Prim.Native.Nat.{ℕ, _+_, _≤_, _<_}
@@ -17,7 +17,7 @@ use Rattle.octets.proofs.Inked.{inked-is}
 use Rattle.octets.proofs.Areas.{area-before, over-inked-in, inked-in-append}
 use Rattle.layout.specs.State.{Text, Pool, program, flat, bytesOf, stringBytes}
 use Rattle.layout.specs.Limits.{WORDS, BYTEWORDS, TEXTS-AT, HEADS-AT, BYTES-AT}
-use Rattle.layout.specs.Memory.{totals, put}
+use Rattle.layout.specs.Memory.{front, put}
 use Rattle.layout.proofs.Columns.{At, at-left, at-right, Column, laid, laid-parts, Within, Stands, Room, putColumns, addColumns, closeColumns, stands-over, add-put, close-put, flat-append}
 use Rattle.layout.proofs.Legal.{Fits, program-append, program-last, bytes-append}
 use Rattle.layout.proofs.Holds.{Holds, perText, perStatement, spaced-texts, spaced-statements, texts-before, statements-before, inkedAt, put-columns, room-texts, room-statements, holds-texts, holds-statements, holds-bytes, length-laid-texts}
@@ -68,13 +68,13 @@ module _ (m : List ℕ) (w : Words m) (n : length m ≡ WORDS) (xs : List ℕ) (
   p = part BYTES-AT BYTEWORDS m
 
   -- bytes that are there already
-  ink-same : inkedAt 0 xs m ≡ m
+  pub ink-same : inkedAt 0 xs m ≡ m
   ink-same =
       let v : Words p = each-take (λ x. x < WORD) BYTEWORDS (drop BYTES-AT m) (each-drop (λ x. x < WORD) BYTES-AT m w) in
       let e : octets p ≡ over 0 xs (octets p) = sym (ap (λ (l : List ℕ). over 0 l (octets p)) (sym h) ∙ over-same 0 (length xs) (octets p)) in
       ap (λ (l : List ℕ). over BYTES-AT l m) (sym (inked-is 0 xs p p v refl e)) ∙ over-same BYTES-AT BYTEWORDS m
 
-  ink-behind : (ys : List ℕ) → inkedAt (length xs) ys m ≡ inkedAt 0 (xs ++ ys) m
+  pub ink-behind : (ys : List ℕ) → inkedAt (length xs) ys m ≡ inkedAt 0 (xs ++ ys) m
   ink-behind ys =
       let f : Bytes xs = subst Bytes h (each-take (λ b. b < 256) (length xs) (octets p) (bytes-octets p)) in
       ap₂ (λ (k : ℕ) (l : List ℕ). inkedAt k ys l) (sym (zero-add (length xs))) (sym ink-same) ∙ inked-in-append BYTES-AT BYTEWORDS 0 xs m (omega arith) ys f
@@ -85,21 +85,21 @@ module _ (m : List ℕ) (s : Pool) (t : Text) (H : Holds m s) (F : Fits (s ++ (t
   bytes-last : stringBytes (s ++ (t ∷ [])) ≡ stringBytes s ++ flat bytesOf (t .body)
   bytes-last = ap (flat bytesOf) (program-last s t) ∙ flat-append bytesOf (program s) (t .body)
 
-  pub added : over 0 (totals (s ++ (t ∷ []))) (addColumns perStatement (program s) (t .body) (addColumns perText s (t ∷ []) (inkedAt (length (stringBytes s)) (flat bytesOf (t .body)) m))) ≡ put (s ++ (t ∷ [])) m
+  pub added : over 0 (front (s ++ (t ∷ []))) (addColumns perStatement (program s) (t .body) (addColumns perText s (t ∷ []) (inkedAt (length (stringBytes s)) (flat bytesOf (t .body)) m))) ≡ put (s ++ (t ∷ [])) m
   added =
       let u = s ++ (t ∷ []) in
       let x = inkedAt 0 (stringBytes u) m in
-      let r = room-texts u F in
+      let r = room-texts u (omega (arith, F .texts)) in
       let k : inkedAt (length (stringBytes s)) (flat bytesOf (t .body)) m ≡ x =
       ink-behind m w (H .words) (stringBytes s) (holds-bytes m s H) (flat bytesOf (t .body)) ∙ ap (λ (l : List ℕ). inkedAt 0 l m) (sym bytes-last) in
       let a : addColumns perText s (t ∷ []) x ≡ putColumns perText u x =
-      add-put perText s (t ∷ []) x TEXTS-AT spaced-texts r (ink-stands perText 0 (stringBytes u) m (H .words) texts-before s (room-texts s (H .fits)) (holds-texts m s H)) in
+      add-put perText s (t ∷ []) x TEXTS-AT spaced-texts r (ink-stands perText 0 (stringBytes u) m (H .words) texts-before s (room-texts s (H .fits .texts)) (holds-texts m s H)) in
       let b : addColumns perStatement (program s) (t .body) (putColumns perText u x) ≡ putColumns perStatement (program u) (putColumns perText u x) =
       add-put perStatement (program s) (t .body) (putColumns perText u x) HEADS-AT spaced-statements (subst (Room perStatement) (program-last s t) (room-statements u F))
       (stands-texts s u x r (ink-stands perStatement 0 (stringBytes u) m (H .words) statements-before (program s) (room-statements s (H .fits)) (holds-statements m s H)))
       ∙ ap (λ (l : List Statement). putColumns perStatement l (putColumns perText u x)) (sym (program-last s t)) in
-      ap (λ (l : List ℕ). over 0 (totals u) (addColumns perStatement (program s) (t .body) (addColumns perText s (t ∷ []) l))) k
-      ∙ ap (λ (l : List ℕ). over 0 (totals u) l) (ap (addColumns perStatement (program s) (t .body)) a ∙ b) ∙ sym (put-columns u m)
+      ap (λ (l : List ℕ). over 0 (front u) (addColumns perStatement (program s) (t .body) (addColumns perText s (t ∷ []) l))) k
+      ∙ ap (λ (l : List ℕ). over 0 (front u) l) (ap (addColumns perStatement (program s) (t .body)) a ∙ b) ∙ sym (put-columns u m)
 
 -- ---- a text removed
 
@@ -128,7 +128,7 @@ module _ (m : List ℕ) (a : Pool) (t : Text) (b : Pool) (H : Holds m (a ++ (t �
   fits-ends : Room perText (a ++ b)
   fits-ends = (omega (arith, length-laid-texts (a ++ b), length-append a b, length-append a (t ∷ b), H .fits .texts), tt)
 
-  pub closed : Words m → over 0 (totals (a ++ b)) (closeColumns perStatement (program a) (t .body) (program b) (closeColumns perText a (t ∷ []) b (inkedAt (length (stringBytes a)) (stringBytes b) m))) ≡ put (a ++ b) m
+  pub closed : Words m → over 0 (front (a ++ b)) (closeColumns perStatement (program a) (t .body) (program b) (closeColumns perText a (t ∷ []) b (inkedAt (length (stringBytes a)) (stringBytes b) m))) ≡ put (a ++ b) m
   closed w =
       let u = a ++ b in
       let v = a ++ (t ∷ b) in
@@ -137,12 +137,12 @@ module _ (m : List ℕ) (a : Pool) (t : Text) (b : Pool) (H : Holds m (a ++ (t �
       ink-behind m w (H .words) (stringBytes a) (at-left 0 (stringBytes a) (flat bytesOf (t .body) ++ stringBytes b) (octets (part BYTES-AT BYTEWORDS m)) bytes-at) (stringBytes b)
       ∙ ap (λ (l : List ℕ). inkedAt 0 l m) (sym (bytes-append a b)) in
       let p : closeColumns perText a (t ∷ []) b x ≡ putColumns perText u x =
-      close-put perText a (t ∷ []) b x TEXTS-AT spaced-texts (room-texts v (H .fits)) (ink-stands perText 0 (stringBytes u) m (H .words) texts-before v (room-texts v (H .fits)) (holds-texts m v H)) in
+      close-put perText a (t ∷ []) b x TEXTS-AT spaced-texts (room-texts v (H .fits .texts)) (ink-stands perText 0 (stringBytes u) m (H .words) texts-before v (room-texts v (H .fits .texts)) (holds-texts m v H)) in
       let s : Stands perStatement (program v) (putColumns perText u x) =
       stands-texts v u x fits-ends (ink-stands perStatement 0 (stringBytes u) m (H .words) statements-before (program v) (room-statements v (H .fits)) (holds-statements m v H)) in
       let q : closeColumns perStatement (program a) (t .body) (program b) (putColumns perText u x) ≡ putColumns perStatement (program u) (putColumns perText u x) =
       close-put perStatement (program a) (t .body) (program b) (putColumns perText u x) HEADS-AT spaced-statements (subst (Room perStatement) program-parted (room-statements v (H .fits)))
       (subst (λ (l : List Statement). Stands perStatement l (putColumns perText u x)) program-parted s)
       ∙ ap (λ (l : List Statement). putColumns perStatement l (putColumns perText u x)) (sym (program-append a b)) in
-      ap (λ (l : List ℕ). over 0 (totals u) (closeColumns perStatement (program a) (t .body) (program b) (closeColumns perText a (t ∷ []) b l))) k
-      ∙ ap (λ (l : List ℕ). over 0 (totals u) l) (ap (closeColumns perStatement (program a) (t .body) (program b)) p ∙ q) ∙ sym (put-columns u m)
+      ap (λ (l : List ℕ). over 0 (front u) (closeColumns perStatement (program a) (t .body) (program b) (closeColumns perText a (t ∷ []) b l))) k
+      ∙ ap (λ (l : List ℕ). over 0 (front u) l) (ap (closeColumns perStatement (program a) (t .body) (program b)) p ∙ q) ∙ sym (put-columns u m)

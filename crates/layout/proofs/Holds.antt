@@ -1,12 +1,12 @@
 -- A memory holds a state: a sound one what it decodes to, and one that was put into what was put. Assumes nothing.
 use mathlib.Core.Path.{_≡_, sym, ap, ap₂, subst, _∙_}
-use mathlib.Core.Bool.{true}
+use mathlib.Core.Bool.{true, false, not}
 use mathlib.Core.List.{List, [], _∷_, map}
 use Prim.Native.Nat.{ℕ, _*_, _≤_, _<_}
+use native.Mathlib.Nat.{zero-add}
 use native.Mathlib.Omega.{arith}
-use lib.Dec.{lit<}
+use lib.Dec.{eqb, lit<}
 use lib.ListN.{length, take, drop, getD, length-map}
-use lib.Seq.{getD-take}
 use Rattle.plain.specs.Bytes.{fair}
 use Rattle.statement.specs.Statements.{Statement}
 use Rattle.words.specs.Halves.{upper, lower, sum}
@@ -20,14 +20,14 @@ use Rattle.octets.proofs.Bytes.{Bytes, length-octets}
 use Rattle.octets.proofs.Areas.{length-inked-in, octets-area}
 use Rattle.names.specs.Names.{NAMEWORDS}
 use Rattle.layout.specs.State.{Text, Pool, program, flat, wordsOf, valuesOf, bytesOf, values, stringBytes}
-use Rattle.layout.specs.Limits.{WORDS, BYTEWORDS, TEXTS-AT, HEADS-AT, NAMES-AT, VALUES-AT, BYTES-AT}
-use Rattle.layout.specs.Memory.{textCount, statementCount, valueCount, byteCount, textWords, headWords, nameWords, valueWords, heldBytes, cutStatements, cutTexts, decode, textWord, headWord, nameOf, totals, put}
+use Rattle.layout.specs.Limits.{TEXTS, TEXTWORDS, WORDS, BYTEWORDS, OPEN-AT, TEXTS-AT, HEADS-AT, NAMES-AT, VALUES-AT, BYTES-AT}
+use Rattle.layout.specs.Memory.{textCount, statementCount, valueCount, byteCount, textWords, headWords, nameWords, valueWords, heldBytes, cutStatements, cutTexts, decode, opens, textWord, headWord, nameOf, front, put}
 use Rattle.layout.specs.Damage.{Framed, totalBytes, sound}
-use Rattle.layout.proofs.Areas.{length-part, length-texts, length-heads, length-names, length-values, length-bytes}
+use Rattle.layout.proofs.Areas.{getD-over, length-part, length-texts, length-heads, length-names, length-values, length-bytes}
 use Rattle.layout.proofs.Bytes.{fair-below}
-use Rattle.layout.proofs.Sound.{Sound, Named, Fitting, of-sound}
+use Rattle.layout.proofs.Sound.{Orderly, Named, Fitting, of-sound}
 use Rattle.layout.proofs.Columns.{At, at-after, Column, Spaced, Within, Room, Stands, putColumns, at-putColumns, part-putColumns, length-putColumns, stands-over, put-stands, flat-map}
-use Rattle.layout.proofs.Legal.{Fits, Fair, Legal, Bounded}
+use Rattle.layout.proofs.Legal.{FitsIn, Fits, Fair, Legal, Bounded}
 use Rattle.layout.proofs.Codec.{Short, ShortText, cut-statements, cut-texts, each-short, each-short-text, sum-texts, sum-heads, bytes-heads, length-laid-names, length-cut, heads-cut, values-cut, bytes-cut, names-cut, words-cut, program-cut, labels-cut, fair-cut, bounded-cut, bounded-labels, labels-laid, named-laid, operators-laid, counts-laid, fitting-laid, letters-laid}
 
 pub record Holds (m : List ℕ) (s : Pool) : Type 0 where
@@ -41,11 +41,11 @@ pub record Holds (m : List ℕ) (s : Pool) : Type 0 where
   pub names : nameWords m ≡ flat nameOf (program s)
   pub values : valueWords m ≡ values s
   pub bytes : heldBytes m ≡ stringBytes s
-  pub fits : Fits s
+  pub fits : FitsIn TEXTWORDS s
 
 -- ---- a sound memory holds what it decodes to
 
-module _ (m : List ℕ) (S : Sound m) where
+module _ {most : ℕ} (m : List ℕ) (S : Orderly most m) where
   abbrev ss : List Statement
   ss = cutStatements (headWords m) (nameWords m) (valueWords m) (heldBytes m)
 
@@ -94,13 +94,16 @@ module _ (m : List ℕ) (S : Sound m) where
   pub length-bytes-held : length (stringBytes (decode m)) ≡ byteCount m
   length-bytes-held = ap length bytes-decode ∙ length-bytes m (S .sizes)
 
-  pub decode-fits : Fits (decode m)
-  decode-fits = record {
-    texts = omega (arith, length-decode, S .sizes .texts);
+  fits-in : (n : ℕ) → textCount m ≤ n → FitsIn n (decode m)
+  fits-in n h = record {
+    texts = omega (arith, length-decode);
     statements = omega (arith, length-program, S .sizes .statements);
     values = omega (arith, length-held, S .sizes .values);
     bytes = omega (arith, length-bytes-held, S .sizes .bytes);
   }
+
+  pub decode-fits : FitsIn most (decode m)
+  decode-fits = fits-in most (S .few)
 
   pub decode-legal : Legal (decode m)
   unfolding decode
@@ -130,7 +133,7 @@ module _ (m : List ℕ) (S : Sound m) where
     names = sym (names-decode w);
     values = sym values-decode;
     bytes = sym bytes-decode;
-    fits = decode-fits;
+    fits = fits-in TEXTWORDS (S .sizes .texts);
   }
 
 -- ---- a memory that holds a legal state decodes to it, and is sound
@@ -157,9 +160,10 @@ module _ (m : List ℕ) (s : Pool) (H : Holds m s) where
     bytes = omega (arith, H .byteCount=, H .fits .bytes);
   }
 
-  pub holds-sound : Legal s → Sound m
-  holds-sound L = record {
+  pub holds-orderly : (most : ℕ) → length s ≤ most → Legal s → Orderly most m
+  holds-orderly most h L = record {
     sizes = holds-framed;
+    few = omega (arith, H .textCount=);
     labels = subst (λ (ws : List ℕ). Different (map upper ws)) (sym (H .texts)) (subst Different (sym (labels-laid s short-texts)) (L .labels));
     names = subst (λ (hs : List ℕ). Named hs (nameWords m)) (sym (H .heads)) (subst (Named (map headWord (program s))) (sym (H .names)) (named-laid (program s) (L .statements)));
     operators = subst (Each (λ h. upper h ≤ 3)) (sym (H .heads)) (operators-laid (program s) short);
@@ -202,10 +206,10 @@ statements-before = (omega arith, (omega arith, (omega arith, tt)))
 abbrev pub inkedAt : (at : ℕ) → (bs m : List ℕ) → List ℕ
 inkedAt at bs m = inkedIn BYTES-AT BYTEWORDS at bs m
 
-pub put-columns : (s : Pool) (m : List ℕ) → put s m ≡ over 0 (totals s) (putColumns perStatement (program s) (putColumns perText s (inkedAt 0 (stringBytes s) m)))
+pub put-columns : (s : Pool) (m : List ℕ) → put s m ≡ over 0 (front s) (putColumns perStatement (program s) (putColumns perText s (inkedAt 0 (stringBytes s) m)))
 unfolding put
 put-columns s m =
-    sym (λ i. over 0 (totals s) (over VALUES-AT (values s) (over NAMES-AT (flat nameOf (program s)) (over HEADS-AT (flat-map headWord (program s) i) (over TEXTS-AT (flat-map textWord s i) (inkedAt 0 (stringBytes s) m))))))
+    sym (λ i. over 0 (front s) (over VALUES-AT (values s) (over NAMES-AT (flat nameOf (program s)) (over HEADS-AT (flat-map headWord (program s) i) (over TEXTS-AT (flat-map textWord s i) (inkedAt 0 (stringBytes s) m))))))
 
 pub length-laid-texts : (s : Pool) → length (flat (λ t. textWord t ∷ []) s) ≡ length s
 length-laid-texts s = ap length (flat-map textWord s) ∙ length-map s textWord
@@ -213,10 +217,10 @@ length-laid-texts s = ap length (flat-map textWord s) ∙ length-map s textWord
 pub length-laid-heads : (ss : List Statement) → length (flat (λ x. headWord x ∷ []) ss) ≡ length ss
 length-laid-heads ss = ap length (flat-map headWord ss) ∙ length-map ss headWord
 
-pub room-texts : (s : Pool) → Fits s → Room perText s
-room-texts s F = (omega (arith, length-laid-texts s, F .texts), tt)
+pub room-texts : (s : Pool) → length s ≤ TEXTWORDS → Room perText s
+room-texts s h = (omega (arith, length-laid-texts s), tt)
 
-pub room-statements : (s : Pool) → Fits s → Room perStatement (program s)
+pub room-statements : {most : ℕ} (s : Pool) → FitsIn most s → Room perStatement (program s)
 room-statements s F =
     (omega (arith, length-laid-heads (program s), F .statements), (omega (arith, length-laid-names (program s), F .statements), (omega (arith, F .values), tt)))
 
@@ -244,16 +248,38 @@ module _ (m : List ℕ) (s : Pool) (H : Holds m s) where
   pub holds-bytes : At 0 (stringBytes s) (octets (part BYTES-AT BYTEWORDS m))
   holds-bytes = ap (λ (k : ℕ). take k (octets (part BYTES-AT BYTEWORDS m))) (sym (H .byteCount=)) ∙ H .bytes
 
--- ---- a memory that was put into holds what was put
+-- what stands in a memory, column by column
+pub record Standing (s : Pool) (m : List ℕ) : Type 0 where
+  pub texts : Stands perText s m
+  pub statements : Stands perStatement (program s) m
+  pub bytes : At 0 (stringBytes s) (octets (part BYTES-AT BYTEWORDS m))
 
--- the four totals are read back
-totals-at : (a b c d : ℕ) (m : List ℕ) → At 0 (a ∷ b ∷ c ∷ d ∷ []) m → (getD m 0 0 ≡ a) × (getD m 1 0 ≡ b) × (getD m 2 0 ≡ c) × (getD m 3 0 ≡ d)
-totals-at a b c d m h = (
-  sym (getD-take 4 m 0 0 (lit< tt)) ∙ ap (λ (l : List ℕ). getD l 0 0) h,
-  sym (getD-take 4 m 1 0 (lit< tt)) ∙ ap (λ (l : List ℕ). getD l 1 0) h,
-  sym (getD-take 4 m 2 0 (lit< tt)) ∙ ap (λ (l : List ℕ). getD l 2 0) h,
-  sym (getD-take 4 m 3 0 (lit< tt)) ∙ ap (λ (l : List ℕ). getD l 3 0) h,
-)
+-- its totals are those of a state
+pub record Told (s : Pool) (m : List ℕ) : Type 0 where
+  pub texts : textCount m ≡ length s
+  pub statements : statementCount m ≡ length (program s)
+  pub values : valueCount m ≡ length (values s)
+  pub bytes : byteCount m ≡ length (stringBytes s)
+
+pub holds-of : (s : Pool) (m : List ℕ) → length m ≡ WORDS → Told s m → Standing s m → FitsIn TEXTWORDS s → Holds m s
+holds-of s m n z S F =
+    let t = S .texts in
+    let r = S .statements in
+    record {
+      words = n;
+      textCount= = z .texts;
+      statementCount= = z .statements;
+      valueCount= = z .values;
+      byteCount= = z .bytes;
+      texts = at-area TEXTS-AT (textCount m) _ m (z .texts ∙ sym (length-laid-texts s)) (t .0) ∙ flat-map textWord s;
+      heads = at-area HEADS-AT (statementCount m) _ m (z .statements ∙ sym (length-laid-heads (program s))) (r .0) ∙ flat-map headWord (program s);
+      names = at-area NAMES-AT (NAMEWORDS * statementCount m) _ m (ap (λ (k : ℕ). NAMEWORDS * k) (z .statements) ∙ sym (length-laid-names (program s))) (r .1 .0);
+      values = at-area VALUES-AT (valueCount m) _ m (z .values) (r .1 .1 .0);
+      bytes = ap (λ (k : ℕ). take k (octets (part BYTES-AT BYTEWORDS m))) (z .bytes) ∙ S .bytes;
+      fits = F;
+    }
+
+-- ---- a memory that was put into holds what was put
 
 -- the bytes of a legal state's strings are bytes
 pub bytes-legal : (s : Pool) → Legal s → Bytes (stringBytes s)
@@ -270,7 +296,7 @@ module _ (s : Pool) (m : List ℕ) (F : Fits s) (n : length m ≡ WORDS) where
   m₂ = putColumns perStatement (program s) m₁
 
   abbrev m₃ : List ℕ
-  m₃ = over 0 (totals s) m₂
+  m₃ = over 0 (front s) m₂
 
   n₀ : length m₀ ≡ WORDS
   n₀ = length-inked-in BYTES-AT BYTEWORDS 0 (stringBytes s) m (omega arith) ∙ n
@@ -283,23 +309,23 @@ module _ (s : Pool) (m : List ℕ) (F : Fits s) (n : length m ≡ WORDS) where
 
   texts₃ : Stands perText s m₃
   texts₃ =
-      let r = room-texts s F in
+      let r = room-texts s (omega (arith, F .texts)) in
       let a = put-stands perText s m₀ TEXTS-AT spaced-texts r (omega (arith, n₀), tt) in
       let b = at-putColumns perStatement (program s) m₁ HEADS-AT TEXTS-AT _ spaced-statements (r .0) (a .0) in
-      (at-after TEXTS-AT _ 0 (totals s) m₂ (omega arith) b, tt)
+      (at-after TEXTS-AT _ 0 (front s) m₂ (omega arith) b, tt)
 
   statements₃ : Stands perStatement (program s) m₃
   statements₃ =
       let w : Within (length m₁) perStatement = (omega (arith, n₁), (omega (arith, n₁), (omega (arith, n₁), tt))) in
-      stands-over perStatement (program s) m₂ HEADS-AT 0 (totals s) spaced-statements (omega arith)
+      stands-over perStatement (program s) m₂ HEADS-AT 0 (front s) spaced-statements (omega arith)
       (put-stands perStatement (program s) m₁ HEADS-AT spaced-statements (room-statements s F) w)
 
   -- the columns and the totals are written before the strings' bytes
   area₃ : part BYTES-AT BYTEWORDS m₃ ≡ part BYTES-AT BYTEWORDS m₀
   area₃ =
-      part-after BYTES-AT BYTEWORDS 0 (totals s) m₂ (omega arith)
+      part-after BYTES-AT BYTEWORDS 0 (front s) m₂ (omega arith)
       ∙ part-putColumns perStatement (program s) m₁ BYTES-AT BYTEWORDS statements-before (room-statements s F)
-      ∙ part-putColumns perText s m₀ BYTES-AT BYTEWORDS texts-before (room-texts s F)
+      ∙ part-putColumns perText s m₀ BYTES-AT BYTEWORDS texts-before (room-texts s (omega (arith, F .texts)))
 
   bytes₃ : Bytes (stringBytes s) → At 0 (stringBytes s) (octets (part BYTES-AT BYTEWORDS m₃))
   bytes₃ f =
@@ -309,24 +335,15 @@ module _ (s : Pool) (m : List ℕ) (F : Fits s) (n : length m ≡ WORDS) where
       ∙ ap (part 0 (length (stringBytes s))) (octets-area BYTES-AT BYTEWORDS 0 (stringBytes s) m (omega arith) f)
       ∙ part-over 0 (stringBytes s) (octets p) (omega (arith, length-octets p, F .bytes))
 
+  told₃ : Told s m₃
+  told₃ =
+      let z : (i : ℕ) → i < 5 → getD m₃ i 0 ≡ getD (front s) i 0 = λ i h. ap (λ (k : ℕ). getD m₃ k 0) (sym (zero-add i)) ∙ getD-over 0 (front s) m₂ i h (omega (arith, n₂)) in
+      record { texts = z 0 (lit< tt); statements = z 1 (lit< tt); values = z 2 (lit< tt); bytes = z 3 (lit< tt) }
+
   holds₃ : Bytes (stringBytes s) → Holds m₃ s
   holds₃ f =
-      let z = totals-at (length s) (length (program s)) (length (values s)) (length (stringBytes s)) m₃ (part-over 0 (totals s) m₂ (omega (arith, n₂))) in
-      let t = texts₃ in
-      let r = statements₃ in
-      record {
-        words = length-over 0 (totals s) m₂ ∙ n₂;
-        textCount= = z .0;
-        statementCount= = z .1;
-        valueCount= = z .2;
-        byteCount= = z .3;
-        texts = at-area TEXTS-AT (textCount m₃) _ m₃ (z .0 ∙ sym (length-laid-texts s)) (t .0) ∙ flat-map textWord s;
-        heads = at-area HEADS-AT (statementCount m₃) _ m₃ (z .1 ∙ sym (length-laid-heads (program s))) (r .0) ∙ flat-map headWord (program s);
-        names = at-area NAMES-AT (NAMEWORDS * statementCount m₃) _ m₃ (ap (λ (k : ℕ). NAMEWORDS * k) (z .1) ∙ sym (length-laid-names (program s))) (r .1 .0);
-        values = at-area VALUES-AT (valueCount m₃) _ m₃ (z .2) (r .1 .1 .0);
-        bytes = ap (λ (k : ℕ). take k (octets (part BYTES-AT BYTEWORDS m₃))) (z .3) ∙ bytes₃ f;
-        fits = F;
-      }
+      holds-of s m₃ (length-over 0 (front s) m₂ ∙ n₂) told₃ (record { texts = texts₃; statements = statements₃; bytes = bytes₃ f })
+      (record { texts = omega (arith, F .texts); statements = F .statements; values = F .values; bytes = F .bytes })
 
   pub put-holds : Bytes (stringBytes s) → Holds (put s m) s
   put-holds f = subst (λ (x : List ℕ). Holds x s) (sym (put-columns s m)) (holds₃ f)
@@ -334,5 +351,11 @@ module _ (s : Pool) (m : List ℕ) (F : Fits s) (n : length m ≡ WORDS) where
   pub decode-put : Legal s → decode (put s m) ≡ s
   decode-put L = decode-holds (put s m) s (put-holds (bytes-legal s L)) (L .statements)
 
+  -- no text is open
+  pub put-closed : opens (put s m) ≡ false
+  put-closed =
+      let e : getD (put s m) OPEN-AT 0 ≡ 0 = ap (λ (x : List ℕ). getD x OPEN-AT 0) (put-columns s m) ∙ getD-over 0 (front s) m₂ 4 (lit< tt) (omega (arith, n₂)) in
+      ap (λ (x : ℕ). not (eqb x 0)) e
+
   pub put-sound : Legal s → sound (put s m) ≡ true
-  put-sound L = of-sound (put s m) (holds-sound (put s m) s (put-holds (bytes-legal s L)) L)
+  put-sound L = of-sound (put s m) (holds-orderly (put s m) s (put-holds (bytes-legal s L)) TEXTS (F .texts) L) put-closed

@@ -19,7 +19,7 @@ use Rattle.words.proofs.Halves.{Different, different-append}
 use Rattle.layout.specs.State.{Text, Pool, program, flat, wordsOf, valuesOf, bytesOf, values, stringBytes}
 use Rattle.layout.specs.Limits.{TEXTS, STATEMENTS, VALUES, BYTES, room}
 use Rattle.names.specs.Names.{legal}
-use Rattle.layout.specs.Damage.{small}
+pub use Rattle.layout.specs.Fair.{FairString, FairValues, Fair}
 use Rattle.layout.proofs.Columns.{flat-append}
 
 abbrev pub labelOf : Text → ℕ
@@ -27,28 +27,15 @@ labelOf t = t .label
 
 -- ---- the three facts
 
--- "totals within the limits"
-pub record Fits (s : Pool) : Type 0 where
-  pub texts : length s ≤ TEXTS
+-- "totals within the limits", of so many texts
+pub record FitsIn (most : ℕ) (s : Pool) : Type 0 where
+  pub texts : length s ≤ most
   pub statements : length (program s) ≤ STATEMENTS
   pub values : length (values s) ≤ VALUES
   pub bytes : length (stringBytes s) ≤ BYTES
 
--- a string within the longest, of a data line's bytes
-pub record FairString (s : List ℕ) : Type 0 where
-  pub short : length s ≤ STRING
-  pub fair : Each (λ b. fair b ≡ true) s
-
--- numbers finite and below 2^200 in size, or such strings
-abbrev pub FairValues : Values → Type 0
-FairValues (numbers bits) = Each (λ w. small w ≡ true) bits
-FairValues (strings ss) = Each FairString ss
-
--- a statement with a legal name, with values, and these fair
-pub record Fair (x : Statement) : Type 0 where
-  pub name : legal (x .name) ≡ true
-  pub some : 1 ≤ howMany (x .values)
-  pub values : FairValues (x .values)
+abbrev pub Fits : Pool → Type 0
+Fits s = FitsIn TEXTS s
 
 pub record Legal (s : Pool) : Type 0 where
   pub labels : Different (map labelOf s)

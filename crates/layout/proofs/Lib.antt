@@ -4,6 +4,7 @@ pub mod Passing
 pub mod Small
 pub mod Bytes
 pub mod Sound
+pub mod Asking
 pub mod Columns
 pub mod Legal
 pub mod Spelling

@@ -1,30 +1,32 @@
--- "A pool is damaged exactly when one of these fails": the conditions, in document 01's order. Definitions only.
+-- "A pool is damaged exactly when one of these fails": the conditions, in document 01's order; then "an open text whose statements and values,
+-- put after the held ones, fail its conditions (the limit of 16 texts apart), whose kept line is over 133 bytes or whose byte count is over
+-- 4,194,305". Definitions only.
 use Prim.Native.Nat.{ℕ, _+_, _/_, _%_, _≤_}
 use mathlib.Core.Path.{_≡_}
 use mathlib.Core.Bool.{Bool, true, false, _&&_}
 use mathlib.Core.List.{List, [], _∷_}
 use lib.Dec.{eqb, ltb, leb}
-use lib.ListN.{length, take, drop}
+use lib.ListN.{length, take, drop, getD}
 use Rattle.plain.specs.Choice.{if_then_else_}
 use Rattle.plain.specs.Bytes.{fair}
 use Rattle.value.specs.Strings.{STRING}
 use Rattle.words.specs.Halves.{HALF, upper, lower, sum, distinct, all}
 use Rattle.names.specs.Names.{NAMEWORDS, holdsName}
-use Rattle.layout.specs.Limits.{TEXTS, STATEMENTS, VALUES, BYTES, WORDS}
-use Rattle.layout.specs.Memory.{textCount, statementCount, valueCount, byteCount, textWords, headWords, nameWords, valueWords, heldBytes, bytesTaken}
+use Rattle.layout.specs.Limits.{TEXTS, STATEMENTS, VALUES, BYTES, TEXTWORDS, OPEN-AT, WORDS, LONGEST-KEPT, MOST-COUNTED}
+use Rattle.layout.specs.Memory.{textCount, statementCount, valueCount, byteCount, textWords, headWords, nameWords, valueWords, heldBytes, bytesTaken, opens, merged}
 
 -- "memory of the fixed size"
 abbrev pub sized : List ℕ → Bool
 sized m = eqb (length m) WORDS
 
--- "totals within the limits"
-abbrev pub limited : List ℕ → Bool
-limited m = leb (textCount m) TEXTS && leb (statementCount m) STATEMENTS && leb (valueCount m) VALUES && leb (byteCount m) BYTES
+-- "totals within the limits", of so many texts
+abbrev pub limited : (most : ℕ) → List ℕ → Bool
+limited most m = leb (textCount m) most && leb (statementCount m) STATEMENTS && leb (valueCount m) VALUES && leb (byteCount m) BYTES
 
 -- both as facts: what reading the areas requires
 pub record Framed (m : List ℕ) : Type 0 where
   pub words : length m ≡ WORDS
-  pub texts : textCount m ≤ TEXTS
+  pub texts : textCount m ≤ TEXTWORDS
   pub statements : statementCount m ≤ STATEMENTS
   pub values : valueCount m ≤ VALUES
   pub bytes : byteCount m ≤ BYTES
@@ -57,11 +59,6 @@ grouped m = eqb (sum (textWords m)) (statementCount m)
 pub record Counted (heads values : List ℕ) : Type 0 where
   pub within : sum heads ≤ length values
   pub few : length values ≤ HALF
-
--- so it is with the heads and values of a memory whose counts add up
-pub record Tallied (m : List ℕ) : Type 0 where
-  pub sizes : Framed m
-  pub values : sum (headWords m) ≡ valueCount m
 
 -- "every held value finite and of size below 2^200": a double is, exactly when its exponent's field is below 1023 + 200
 abbrev pub BIAS : ℕ
@@ -97,10 +94,28 @@ spaced m = eqb (totalBytes (headWords m) (valueWords m)) (byteCount m)
 abbrev pub lettered : List ℕ → Bool
 lettered m = all fair (heldBytes m)
 
--- the memory is not damaged
-unfoldable pub sound : List ℕ → Bool
+-- document 01's conditions, with at most so many texts
+unfoldable pub orderly : (most : ℕ) → List ℕ → Bool
 unfolding allNamed allFit totalBytes
-sound m =
-    if sized m && limited m
+orderly most m =
+    if sized m && limited most m
     then labelled m && named m && operated m && summed m && grouped m && bounded m && spaced m && lettered m
     else false
+
+-- ---- the open text
+
+-- what is kept of its line, and how many bytes came so far
+abbrev pub keptLength : List ℕ → ℕ
+keptLength m = getD m (OPEN-AT + 10) 0
+
+abbrev pub bytesSoFar : List ℕ → ℕ
+bytesSoFar m = getD m (OPEN-AT + 12) 0
+
+-- "put after the held ones" its statements and values keep the conditions, "the limit of 16 texts apart"
+abbrev pub orderlyOpen : List ℕ → Bool
+orderlyOpen m = orderly (TEXTS + 1) (merged m) && leb (keptLength m) LONGEST-KEPT && leb (bytesSoFar m) MOST-COUNTED
+
+-- the memory is not damaged
+unfoldable pub sound : List ℕ → Bool
+unfolding orderly
+sound m = orderly TEXTS m && (if opens m then orderlyOpen m else true)

@@ -3,3 +3,5 @@ pub mod State
 pub mod Limits
 pub mod Memory
 pub mod Damage
+pub mod Fair
+pub mod Totals

@@ -1,5 +1,7 @@
--- The memory of a pool, word by word (docs/LAYOUT.md): `decode` reads the texts that it holds, `put` writes them. Definitions only.
+-- The memory of a pool, word by word (docs/LAYOUT.md): `decode` reads the texts that it holds, `put` writes them, with no text open.
+-- Definitions only.
 use Prim.Native.Nat.{ℕ, _+_, _*_, _/_, _%_}
+use mathlib.Core.Bool.{Bool, not}
 use mathlib.Core.List.{List, [], _∷_, map}
 use lib.Dec.{eqb}
 use lib.ListN.{length, take, drop, getD}
@@ -11,8 +13,8 @@ use Rattle.words.specs.Over.{over, part}
 use Rattle.words.specs.Halves.{upper, lower, joined, sum}
 use Rattle.octets.specs.Octets.{octets, inkedIn}
 use Rattle.names.specs.Names.{NAMEWORDS, packed, unpacked}
-use Rattle.layout.specs.State.{Text, Pool, program, flat, values, stringBytes}
-use Rattle.layout.specs.Limits.{TEXTS-AT, HEADS-AT, NAMES-AT, VALUES-AT, BYTES-AT, BYTEWORDS}
+use Rattle.layout.specs.State.{Text, Pool, program, flat, valuesOf, bytesOf, values, stringBytes}
+use Rattle.layout.specs.Limits.{OPEN-AT, TEXTS-AT, HEADS-AT, NAMES-AT, VALUES-AT, BYTES-AT, BYTEWORDS}
 
 -- ---- from memory
 
@@ -92,6 +94,49 @@ unfoldable pub decode : List ℕ → Pool
 unfolding cutTexts cutStatements
 decode m = cutTexts (textWords m) (cutStatements (headWords m) (nameWords m) (valueWords m) (heldBytes m))
 
+-- ---- the open text
+
+-- "One text may be open at a time": whether one is
+abbrev pub opens : List ℕ → Bool
+opens m = not (eqb (getD m OPEN-AT 0) 0)
+
+-- its word stands behind those of the held texts: its label, and how many statements it has so far
+abbrev pub openWord : List ℕ → ℕ
+openWord m = getD m (TEXTS-AT + textCount m) 0
+
+abbrev pub openLabel : List ℕ → ℕ
+openLabel m = upper (openWord m)
+
+abbrev pub openStatements : List ℕ → ℕ
+openStatements m = lower (openWord m)
+
+-- how many values, and bytes in strings
+abbrev pub openValues : List ℕ → ℕ
+openValues m = getD m (OPEN-AT + 1) 0
+
+abbrev pub openBytes : List ℕ → ℕ
+openBytes m = getD m (OPEN-AT + 2) 0
+
+-- the memory as it stands with the open text's statements and values "put after the held ones": its totals count them
+abbrev pub merged : List ℕ → List ℕ
+merged m =
+    over 0
+    ((textCount m + 1) ∷ (statementCount m + openStatements m) ∷ (valueCount m + openValues m) ∷ (byteCount m + openBytes m) ∷ [])
+    m
+
+-- its statements so far, cut out of what stands behind the held ones
+unfoldable pub openBody : List ℕ → List Statement
+unfolding cutStatements
+openBody m =
+    cutStatements
+    (part (HEADS-AT + statementCount m) (openStatements m) m)
+    (part (NAMES-AT + NAMEWORDS * statementCount m) (NAMEWORDS * openStatements m) m)
+    (part (VALUES-AT + valueCount m) (openValues m) m)
+    (take (openBytes m) (drop (byteCount m) (octets (part BYTES-AT BYTEWORDS m))))
+
+abbrev pub openText : List ℕ → Text
+openText m = record { label = openLabel m; body = openBody m }
+
 -- ---- to memory
 
 abbrev pub textWord : Text → ℕ
@@ -103,14 +148,27 @@ headWord s = joined (kindNumber (s .values) * 2 + operatorNumber (s .operator)) 
 abbrev pub nameOf : Statement → List ℕ
 nameOf s = packed (s .name)
 
-abbrev pub totals : Pool → List ℕ
-totals s = length s ∷ length (program s) ∷ length (values s) ∷ length (stringBytes s) ∷ []
+-- no text is open
+abbrev pub NONE-OPEN : ℕ
+NONE-OPEN = 0
 
--- m with the state s written into its areas and its totals; every word that s does not use stays
+-- the words in front: the totals, and that no text is open
+abbrev pub front : Pool → List ℕ
+front s = length s ∷ length (program s) ∷ length (values s) ∷ length (stringBytes s) ∷ NONE-OPEN ∷ []
+
+-- m with the state s written into its areas and in front; every word that s does not use stays
 unfoldable pub put : Pool → List ℕ → List ℕ
 put s m =
-    over 0 (totals s)
+    over 0 (front s)
     (over VALUES-AT (values s)
     (over NAMES-AT (flat nameOf (program s))
     (over HEADS-AT (map headWord (program s))
     (over TEXTS-AT (map textWord s) (inkedIn BYTES-AT BYTEWORDS 0 (stringBytes s) m)))))
+
+-- m with some statements written behind those of the state s
+unfoldable pub laidBehind : Pool → List Statement → List ℕ → List ℕ
+laidBehind s ss m =
+    over (VALUES-AT + length (values s)) (flat valuesOf ss)
+    (over (NAMES-AT + NAMEWORDS * length (program s)) (flat nameOf ss)
+    (over (HEADS-AT + length (program s)) (map headWord ss)
+    (inkedIn BYTES-AT BYTEWORDS (length (stringBytes s)) (flat bytesOf ss) m)))

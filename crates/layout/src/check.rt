@@ -1,35 +1,46 @@
-// "A pool is damaged exactly when one of these fails": one function for each condition, in document 01's order.
-use crate::area::bytes_of;
-use crate::area::heads_of;
-use crate::area::names_of;
-use crate::area::texts_of;
-use crate::area::values_of;
-use crate::limits::BYTE_COUNT;
+// "A pool is damaged exactly when one of these fails": the conditions in document 01's order, of what is held; and of what is held with the open
+// text's statements and values "put after the held ones".
+use crate::front::Totals;
+use crate::front::totals_merged;
+use crate::front::totals_of;
 use crate::limits::BYTES;
+use crate::limits::BYTES_AT;
+use crate::limits::BYTES_SO_FAR;
+use crate::limits::BYTEWORDS;
 use crate::limits::HALF;
-use crate::limits::STATEMENT_COUNT;
+use crate::limits::HEADS_AT;
+use crate::limits::KEPT_LENGTH;
+use crate::limits::LONGEST_KEPT;
+use crate::limits::MOST_COUNTED;
+use crate::limits::NAMES_AT;
+use crate::limits::OPEN_AT;
+use crate::limits::OPEN_BYTES;
+use crate::limits::OPEN_VALUES;
 use crate::limits::STATEMENTS;
-use crate::limits::TEXT_COUNT;
 use crate::limits::TEXTS;
-use crate::limits::VALUE_COUNT;
+use crate::limits::TEXTS_AT;
 use crate::limits::VALUES;
+use crate::limits::VALUES_AT;
 use crate::limits::WORDS;
 use crate::taken::sum_bytes;
 use names::legible::holds_name;
 use names::pack::NAMEWORDS;
 use octets::fair::all_fair;
 use value::strings::STRING;
+use words::read::part_of;
 use words::scan::all_distinct;
 use words::scan::sum_lower;
 ghost use mathlib.Core.Path.{_≡_};
-ghost use Prim.Native.Nat.{_*_, _≤_, _<_};
+ghost use Prim.Native.Nat.{_*_, _≤_};
 ghost use lib.Dec.{leb};
 ghost use lib.ListN.{length};
 ghost use Rattle.value.specs.Strings.{STRING};
-ghost use Rattle.words.specs.Halves.{all, upper, lower};
+ghost use Rattle.words.specs.Halves.{HALF, all, upper, lower};
 ghost use Rattle.names.specs.Names.{NAMEWORDS};
 ghost use Rattle.layout.specs.Limits.{TEXTS-AT};
-ghost use Rattle.layout.specs.Damage.{Framed, Counted, Tallied, sound, small, fits, allNamed, allFit, sized, limited, labelled, named, operated, summed, grouped, bounded, spaced, lettered};
+ghost use Rattle.layout.specs.Memory.{opens};
+ghost use Rattle.layout.specs.Damage.{Counted, orderly, orderlyOpen, sound, small, fits, allNamed, allFit};
+ghost use Rattle.layout.specs.Totals.{under, within, sums, Sizes, Behind};
 
 // 2^52, above which a double has its exponent's field, 11 bits wide.
 const FRACTION: u64 = 4503599627370496;
@@ -43,126 +54,108 @@ const LARGE: u64 = 1223;
 pub fn is_sound(m: &[u64]) -> bool
     ensures { λ r. ⌜ r ≡ sound (now (m .entry)) ⌝ }
 {
-    if !is_sized(m) {
+    if m.len() != WORDS {
         return false;
     }
-    if !is_limited(m) {
+    if !is_orderly(m, TEXTS, totals_of(m)) {
         return false;
     }
-    if !is_labelled(m) {
-        return false;
+    if !is_open(m) {
+        return true;
     }
-    if !is_named(m) {
-        return false;
-    }
-    if !is_operated(m) {
-        return false;
-    }
-    if !is_summed(m) {
-        return false;
-    }
-    if !is_grouped(m) {
-        return false;
-    }
-    if !is_bounded(m) {
-        return false;
-    }
-    if !is_spaced(m) {
-        return false;
-    }
-    is_lettered(m)
+    is_open_orderly(m)
 }
 
-// "memory of the fixed size"
-fn is_sized(m: &[u64]) -> bool
-    ensures { λ r. ⌜ r ≡ sized (now (m .entry)) ⌝ }
+// One text is open.
+pub fn is_open(m: &[u64]) -> bool
+    requires { ⌜ TEXTS-AT ≤ length (now m) ⌝ }
+    ensures { λ r. ⌜ r ≡ opens (now (m .entry)) ⌝ }
 {
-    m.len() == WORDS
+    m[OPEN_AT] != 0
+}
+
+// The open text's statements and values, "put after the held ones", keep the conditions, and its line and byte count are not too long. Counts
+// over the limits are refused before they are added, so that no sum wraps.
+fn is_open_orderly(m: &[u64]) -> bool
+    requires { ⌜ Behind (now m) ⌝ }
+    ensures { λ r. ⌜ r ≡ orderlyOpen (now (m .entry)) ⌝ }
+{
+    if LONGEST_KEPT < m[KEPT_LENGTH] {
+        return false;
+    }
+    if MOST_COUNTED < m[BYTES_SO_FAR] {
+        return false;
+    }
+    if VALUES < m[OPEN_VALUES] {
+        return false;
+    }
+    if BYTES < m[OPEN_BYTES] {
+        return false;
+    }
+    is_orderly(m, TEXTS + 1, totals_merged(m))
+}
+
+// Document 01's conditions, in its order, with at most so many texts, of the memory with such totals.
+fn is_orderly(m: &[u64], most: u64, totals: Totals) -> bool
+    requires { ⌜ Sizes most (now m) ⌝ }
+    ensures { λ r. ⌜ r ≡ orderly most (under totals (now (m .entry))) ⌝ }
+{
+    if !is_limited(most, totals) {
+        return false;
+    }
+    let texts = part_of(m, TEXTS_AT, totals.texts as usize);
+    let heads = part_of(m, HEADS_AT, totals.statements as usize);
+    let names = part_of(m, NAMES_AT, NAMEWORDS * (totals.statements as usize));
+    let values = part_of(m, VALUES_AT, totals.values as usize);
+    if !all_distinct(texts) {
+        return false;
+    }
+    if !all_named(heads, names) {
+        return false;
+    }
+    if !all_operated(heads) {
+        return false;
+    }
+    if !is_summed(heads, totals.values) {
+        return false;
+    }
+    if sum_lower(texts) != totals.statements {
+        return false;
+    }
+    if !all_fit(heads, values) {
+        return false;
+    }
+    if sum_bytes(heads, values) != totals.bytes {
+        return false;
+    }
+    all_fair(part_of(m, BYTES_AT, BYTEWORDS), totals.bytes as usize)
 }
 
 // "totals within the limits"
-fn is_limited(m: &[u64]) -> bool
-    requires { ⌜ TEXTS-AT ≤ length (now m) ⌝ }
-    ensures { λ r. ⌜ r ≡ limited (now (m .entry)) ⌝ }
+fn is_limited(most: u64, totals: Totals) -> bool
+    ensures { λ r. ⌜ r ≡ within most totals ⌝ }
 {
-    if TEXTS < m[TEXT_COUNT] {
+    if most < totals.texts {
         return false;
     }
-    if STATEMENTS < m[STATEMENT_COUNT] {
+    if STATEMENTS < totals.statements {
         return false;
     }
-    if VALUES < m[VALUE_COUNT] {
+    if VALUES < totals.values {
         return false;
     }
-    m[BYTE_COUNT] <= BYTES
-}
-
-// "labels distinct"
-fn is_labelled(m: &[u64]) -> bool
-    requires { ⌜ Framed (now m) ⌝ }
-    ensures { λ r. ⌜ r ≡ labelled (now (m .entry)) ⌝ }
-{
-    all_distinct(texts_of(m))
-}
-
-// "names .. legal"
-fn is_named(m: &[u64]) -> bool
-    requires { ⌜ Framed (now m) ⌝ }
-    ensures { λ r. ⌜ r ≡ named (now (m .entry)) ⌝ }
-{
-    all_named(heads_of(m), names_of(m))
-}
-
-// "operators legal"
-fn is_operated(m: &[u64]) -> bool
-    requires { ⌜ Framed (now m) ⌝ }
-    ensures { λ r. ⌜ r ≡ operated (now (m .entry)) ⌝ }
-{
-    all_operated(heads_of(m))
+    totals.bytes <= BYTES
 }
 
 // "every statement's count at least 1 and the counts adding up to the total"
-fn is_summed(m: &[u64]) -> bool
-    requires { ⌜ Framed (now m) ⌝ }
-    ensures { λ r. ⌜ r ≡ summed (now (m .entry)) ⌝ }
+fn is_summed(heads: &[u64], total: u64) -> bool
+    requires { ⌜ length (now heads) ≤ HALF ⌝ }
+    ensures { λ r. ⌜ r ≡ sums (now (heads .entry)) total ⌝ }
 {
-    let heads = heads_of(m);
     if !all_filled(heads) {
         return false;
     }
-    sum_lower(heads) == m[VALUE_COUNT]
-}
-
-// "statements grouped by text in load order, each under a held label"
-fn is_grouped(m: &[u64]) -> bool
-    requires { ⌜ Framed (now m) ⌝ }
-    ensures { λ r. ⌜ r ≡ grouped (now (m .entry)) ⌝ }
-{
-    sum_lower(texts_of(m)) == m[STATEMENT_COUNT]
-}
-
-// "every held value finite and of size below 2^200"; no "string over its length"
-fn is_bounded(m: &[u64]) -> bool
-    requires { ⌜ Tallied (now m) ⌝ }
-    ensures { λ r. ⌜ r ≡ bounded (now (m .entry)) ⌝ }
-{
-    all_fit(heads_of(m), values_of(m))
-}
-
-// No "lengths that do not add up to the string total".
-fn is_spaced(m: &[u64]) -> bool
-    requires { ⌜ Tallied (now m) ⌝ }
-    ensures { λ r. ⌜ r ≡ spaced (now (m .entry)) ⌝ }
-{
-    sum_bytes(heads_of(m), values_of(m)) == m[BYTE_COUNT]
-}
-
-// No string "with other bytes".
-fn is_lettered(m: &[u64]) -> bool
-    requires { ⌜ Framed (now m) ⌝ }
-    ensures { λ r. ⌜ r ≡ lettered (now (m .entry)) ⌝ }
-{
-    all_fair(bytes_of(m), m[BYTE_COUNT] as usize)
+    sum_lower(heads) == total
 }
 
 // Every statement's four words hold a legal name.

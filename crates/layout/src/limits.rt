@@ -21,19 +21,37 @@ pub const VALUE_COUNT: usize = 2;
 
 pub const BYTE_COUNT: usize = 3;
 
+// Where the open text's words begin, of which the first says whether one is open; and which of them are read here: how many values and bytes
+// of strings it has so far, how many bytes are kept of its line, and how many bytes came.
+pub const OPEN_AT: usize = 4;
+
+pub const OPEN_VALUES: usize = 5;
+
+pub const OPEN_BYTES: usize = 6;
+
+pub const KEPT_LENGTH: usize = 14;
+
+pub const BYTES_SO_FAR: usize = 16;
+
 // Where each area begins.
-pub const TEXTS_AT: usize = 4;
 
-pub const HEADS_AT: usize = 20;
+pub const TEXTS_AT: usize = 34;
 
-pub const NAMES_AT: usize = 532;
+pub const HEADS_AT: usize = 51;
 
-pub const VALUES_AT: usize = 2580;
+pub const NAMES_AT: usize = 563;
 
-pub const BYTES_AT: usize = 5652;
+pub const VALUES_AT: usize = 2611;
+
+pub const BYTES_AT: usize = 5683;
 
 // The size of the memory, in words.
-pub const WORDS: usize = 6676;
+pub const WORDS: usize = 6707;
 
 // A word's upper number stands above 2^32.
 pub const HALF: u64 = 4294967296;
+
+// "whose kept line is over 133 bytes or whose byte count is over 4,194,305"
+pub const LONGEST_KEPT: u64 = 133;
+
+pub const MOST_COUNTED: u64 = 4194305;

@@ -1,51 +1,27 @@
 -- `is_limited` meets its contract: each way out is one of the four tests. Assumes nothing.
 use native.Mathlib.Omega.{arith}
-use borrow.Author.Needs.{needs}
 use borrow.Author.Tests.{le-leb, lt-leb}
-use Rattle.layout.specs.Limits.{TEXTS, STATEMENTS, VALUES}
-use Rattle.layout.specs.Memory.{textCount, statementCount, valueCount}
+use Rattle.layout.specs.Limits.{STATEMENTS, VALUES}
 use Rattle.layout.proofs.check.is_limited.Statement.{statement}
 use Rattle.layout.proofs.check.is_limited.Tie as tie
 
-shared-slice-read-if1 : tie.Need-shared-slice-read-if1
-shared-slice-read-if1 c = search needs
-
 returns : tie.Need-returns
-returns c = let m = c .before .before .args .m .now in rw (lt-leb (textCount m) TEXTS (omega arith))
-
-shared-slice-read-if2 : tie.Need-shared-slice-read-if2
-shared-slice-read-if2 c = search needs
+returns c = let a = c .before .before .args in rw (lt-leb (a .totals .texts) (a .most) (omega arith))
 
 returns-2 : tie.Need-returns-2
 returns-2 c =
-    let m = c .before .before .before .before .args .m .now in
-    rw (le-leb (textCount m) TEXTS (omega arith), lt-leb (statementCount m) STATEMENTS (omega arith))
-
-shared-slice-read-if3 : tie.Need-shared-slice-read-if3
-shared-slice-read-if3 c = search needs
+    let a = c .before .before .before .before .args in
+    rw (le-leb (a .totals .texts) (a .most) (omega arith), lt-leb (a .totals .statements) STATEMENTS (omega arith))
 
 returns-3 : tie.Need-returns-3
 returns-3 c =
-    let m = c .before .before .before .before .before .before .args .m .now in
-    rw (le-leb (textCount m) TEXTS (omega arith), le-leb (statementCount m) STATEMENTS (omega arith), lt-leb (valueCount m) VALUES (omega arith))
-
-shared-slice-read-result : tie.Need-shared-slice-read-result
-shared-slice-read-result c = search needs
+    let a = c .before .before .before .before .before .before .args in
+    rw (le-leb (a .totals .texts) (a .most) (omega arith), le-leb (a .totals .statements) STATEMENTS (omega arith), lt-leb (a .totals .values) VALUES (omega arith))
 
 returns-4 : tie.Need-returns-4
 returns-4 c =
-    let m = c .before .before .before .before .before .before .before .args .m .now in
-    rw (le-leb (textCount m) TEXTS (omega arith), le-leb (statementCount m) STATEMENTS (omega arith), le-leb (valueCount m) VALUES (omega arith))
+    let a = c .before .before .before .before .before .before .before .args in
+    rw (le-leb (a .totals .texts) (a .most) (omega arith), le-leb (a .totals .statements) STATEMENTS (omega arith), le-leb (a .totals .values) VALUES (omega arith))
 
 pub is-limited-spec : {M : Type 1} → statement M
-is-limited-spec =
-    tie.close
-    (tie.spec
-    shared-slice-read-if1
-    returns
-    shared-slice-read-if2
-    returns-2
-    shared-slice-read-if3
-    returns-3
-    shared-slice-read-result
-    returns-4)
+is-limited-spec = tie.close (tie.spec returns returns-2 returns-3 returns-4)

@@ -1,0 +1,1 @@
+// An open text behind what a pool holds: laws alone.
