@@ -1,6 +1,6 @@
 -- What the calls leave and answer is what the listing is made of: an empty pool into which the text is loaded. Assumes nothing.
 use mathlib.Core.Path.{_≡_, refl, sym, ap, ap₂, subst, _∙_}
-use mathlib.Core.Bool.{Bool, true}
+use mathlib.Core.Bool.{Bool, true, false}
 use mathlib.Core.List.{List, []}
 use Prim.Native.Nat.{ℕ, _≤_}
 use native.Mathlib.Nat.{zero-add}
@@ -10,12 +10,12 @@ use lib.ListN.{length, replicate, length-replicate}
 use Rattle.plain.specs.Choice.{if_then_else_}
 use Rattle.refusal.specs.Numbers.{numberOf}
 use Rattle.refusal.specs.declared.Refusal.{Refusal}
-use Rattle.refusal.specs.declared.Refusal.the-variants.{DamagedPool}
+use Rattle.refusal.specs.declared.Refusal.the-variants.{DamagedPool, TextOpen}
 use Rattle.words.specs.Placed.{Room, Writes}
 use Rattle.words.proofs.Placed.{writes-same}
 use Rattle.layout.specs.State.{Pool}
 use Rattle.layout.specs.Limits.{WORDS}
-use Rattle.layout.specs.Memory.{decode}
+use Rattle.layout.specs.Memory.{decode, opens}
 use Rattle.layout.specs.Damage.{sized, sound}
 use Rattle.layout.proofs.Sound.{sound-of}
 use Rattle.pool.specs.Replies.{done, refusing}
@@ -23,7 +23,7 @@ use Rattle.pool.specs.Empty.{emptyReply, emptied, Empties}
 use Rattle.pool.specs.Load.{textOf, with, loadAnswer, loadReply, loadMemory, Loads}
 use Rattle.pool.specs.declared.reply.Reply.{Reply}
 use Rattle.pool.specs.declared.reply.Reply.the-variants.{Done, Refused}
-use Rattle.pool.proofs.Emptying.{empty-sound, empty-decode}
+use Rattle.pool.proofs.Emptying.{empty-sound, empty-decode, empty-shut}
 use Rattle.pool.proofs.Loaded.{load-sound, load-decode}
 use Rattle.shown.specs.Shown.{shown}
 use Rattle.shown.specs.Shows.{Showing}
@@ -47,6 +47,9 @@ module _ (text first empty memory : List ℕ) (made reply : Reply) (n : WORDS �
   nothing : decode empty ≡ []
   nothing = ap decode (E .memory) ∙ empty-decode first whole
 
+  empty-closed : opens empty ≡ false
+  empty-closed = ap (λ (m : List ℕ). opens m) (E .memory) ∙ empty-shut first whole
+
   undamaged : sound memory ≡ true
   undamaged = ap sound (L .memory) ∙ load-sound LABEL text empty empty-whole
 
@@ -54,7 +57,7 @@ module _ (text first empty memory : List ℕ) (made reply : Reply) (n : WORDS �
   unfolding loadReply
   answered =
       L .reply
-      ∙ ap (λ (t : Bool). if t then loadAnswer LABEL text (decode empty) else refusing DamagedPool) empty-whole
+      ∙ ap₂ (λ (t o : Bool). if t then (if o then refusing TextOpen else loadAnswer LABEL text (decode empty)) else refusing DamagedPool) empty-whole empty-closed
       ∙ ap (loadAnswer LABEL text) nothing
 
   held : reply ≡ Done → decode memory ≡ loaded text

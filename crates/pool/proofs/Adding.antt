@@ -15,7 +15,7 @@ use Rattle.words.proofs.Each.{Words}
 use Rattle.words.proofs.Over.{length-over}
 use Rattle.layout.specs.State.{Pool, program, flat, spelled, valuesOf, bytesOf, values, stringBytes}
 use Rattle.layout.specs.Limits.{WORDS, TEXTS-AT, HEADS-AT, NAMES-AT, VALUES-AT}
-use Rattle.layout.specs.Memory.{textCount, statementCount, valueCount, byteCount, textWord, headWord, nameOf, decode, put}
+use Rattle.layout.specs.Memory.{textCount, statementCount, valueCount, byteCount, textWord, headWord, nameOf, decode, NONE-OPEN, put}
 use Rattle.layout.proofs.Changes.{ink-add, added}
 use Rattle.layout.proofs.Codec.{length-laid-names}
 use Rattle.layout.proofs.Columns.{addColumns}
@@ -44,7 +44,7 @@ unfolding flat
 joined-long [] = refl
 joined-long (s ∷ ss) = omega (arith, length-append s (flat (λ s. s) ss), joined-long ss)
 
-spelled-long : (v : Values) → length (spelled v) ≡ howLong v
+pub spelled-long : (v : Values) → length (spelled v) ≡ howLong v
 spelled-long (numbers bits) = refl
 spelled-long (strings ss) = joined-long ss
 
@@ -159,14 +159,14 @@ module _ (label : ℕ) (bytes : List ℕ) (n k b : ℕ) (m : List ℕ) (a : Acce
         let x1 : m1 ≡ addColumns perText s (t ∷ []) m = e1 ∙ behind-texts label bytes s m (textCount m) n (hold .textCount=) (counted .statements=) in
         let x2 : inkedAt (byteCount m) bs m1 ≡ addColumns perText s (t ∷ []) (inkedAt (length (stringBytes s)) bs m) =
         (λ i. inkedAt (hold .byteCount= i) bs (x1 i))
-        ∙ sym (ink-add perText (length (stringBytes s)) bs m (hold .words) texts-before s (t ∷ []) (room-texts (with s t) (fits-of (with s t) (a .roomy)))) in
+        ∙ sym (ink-add perText (length (stringBytes s)) bs m (hold .words) texts-before s (t ∷ []) (room-texts (with s t) (omega (arith, fits-of (with s t) (a .roomy) .texts)))) in
         x3 ∙ x4 ∙ ap (addColumns perStatement (program s) (t .body)) x2
 
-  -- what is written, with the text's word before it and the totals behind it
+  -- what is written, with the text's word before it and the words in front behind it
   pub added-put : Words m → (m1 m3 m4 : List ℕ) (p end : Pen) → p ≡ penOf m
       → m1 ≡ over (TEXTS-AT + textCount m) ((label * HALF + n) ∷ []) m
       → page m3 end ≡ writtenOn (T.added (readText bytes)) (page m1 p)
-      → m4 ≡ over 0 ((textCount m + 1) ∷ (statementCount m + n) ∷ (valueCount m + k) ∷ (byteCount m + b) ∷ []) m3
+      → m4 ≡ over 0 ((textCount m + 1) ∷ (statementCount m + n) ∷ (valueCount m + k) ∷ (byteCount m + b) ∷ NONE-OPEN ∷ []) m3
       → m4 ≡ put (with (decode m) (textOf label bytes)) m
   added-put w m1 m3 m4 p end q e1 e3 e4 =
       let s = decode m in
@@ -177,4 +177,4 @@ module _ (label : ℕ) (bytes : List ℕ) (n k b : ℕ) (m : List ℕ) (a : Acce
       let q1 : statementCount m + n ≡ length (program (with s t)) = omega (arith, hold .statementCount=, statements-with s t, counted .statements=) in
       let q2 : valueCount m + k ≡ length (values (with s t)) = omega (arith, hold .valueCount=, values-with s t, counted .values=) in
       let q3 : byteCount m + b ≡ length (stringBytes (with s t)) = omega (arith, hold .byteCount=, bytes-with s t, counted .bytes=) in
-      e4 ∙ (λ i. over 0 (q0 i ∷ q1 i ∷ q2 i ∷ q3 i ∷ []) (x i)) ∙ added m s t hold (fits-of (with s t) (a .roomy)) w
+      e4 ∙ (λ i. over 0 (q0 i ∷ q1 i ∷ q2 i ∷ q3 i ∷ NONE-OPEN ∷ []) (x i)) ∙ added m s t hold (fits-of (with s t) (a .roomy)) w

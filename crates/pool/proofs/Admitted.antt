@@ -23,20 +23,20 @@ use Rattle.layout.specs.Damage.{BIAS, exponentField, small}
 use Rattle.layout.proofs.Legal.{FairString, FairValues, Fair}
 
 -- a value whose exponent's field is that of a size below 2^200
-abbrev Small : ℕ → Type 0
+abbrev pub Small : ℕ → Type 0
 Small w = small w ≡ true
 
 small-field : (w : ℕ) → w % 2 ^ 63 < 2 ^ 52 * (1023 + 200) → exponentField w < BIAS + 200
 small-field w h = omega arith
 
-read-small : (bs : List ℕ) (x : Float) → reading bs ≡ Number x → Small (toBits binary64 x)
+pub read-small : (bs : List ℕ) (x : Float) → reading bs ≡ Number x → Small (toBits binary64 x)
 read-small bs x e = lt-ltb (exponentField (toBits binary64 x)) (BIAS + 200) (small-field (toBits binary64 x) (reading-bits bs x e))
 
-fair-values : (v : Values) → LegalValues Small v → FairValues v
+pub fair-values : (v : Values) → LegalValues Small v → FairValues v
 fair-values (numbers bits) l = l
 fair-values (strings ss) l = each-weaken LegalString FairString (λ s f. record { short = f .short; fair = f .bytes }) ss l
 
-fair : (s : Statement) → T.Legal Small s → Fair s
+pub fair : (s : Statement) → T.Legal Small s → Fair s
 unfolding legal
 fair s l = record { name = rw (l .named .sized, each-all nameByte (s .name) (l .named .bytes)); some = l .filled; values = fair-values (s .values) (l .values) }
 

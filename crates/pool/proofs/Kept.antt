@@ -44,11 +44,11 @@ headAfter h (v ∷ vs) = headAfter (toldHead v h) vs
 
 -- ---- values of one kind
 
-abbrev Number : Value → Type 0
+abbrev pub Number : Value → Type 0
 Number (number x) = Unit {0}
 Number (string s) = ⊥
 
-abbrev String : Value → Type 0
+abbrev pub String : Value → Type 0
 String (number x) = ⊥
 String (string s) = Unit {0}
 
@@ -74,37 +74,37 @@ all-strings (string s ∷ vs) e = (tt, all-strings vs (omega arith))
 
 -- numbers
 
-number-words : (vs : List Value) → Each Number vs → map wordIn vs ≡ numbersIn vs
+pub number-words : (vs : List Value) → Each Number vs → map wordIn vs ≡ numbersIn vs
 number-words [] f = refl
 number-words (number x ∷ vs) f = ap (λ (r : List ℕ). toBits binary64 x ∷ r) (number-words vs (f .1))
 number-words (string s ∷ vs) f = absurd (f .0)
 
-number-letters : (vs : List Value) → Each Number vs → flat lettersIn vs ≡ []
+pub number-letters : (vs : List Value) → Each Number vs → flat lettersIn vs ≡ []
 unfolding flat
 number-letters [] f = refl
 number-letters (number x ∷ vs) f = number-letters vs (f .1)
 number-letters (string s ∷ vs) f = absurd (f .0)
 
-number-head : (h : ℕ) (vs : List Value) → Each Number vs → headAfter h vs ≡ h + length vs
+pub number-head : (h : ℕ) (vs : List Value) → Each Number vs → headAfter h vs ≡ h + length vs
 number-head h [] f = omega arith
 number-head h (number x ∷ vs) f = omega (arith, number-head (h + 1) vs (f .1))
 number-head h (string s ∷ vs) f = absurd (f .0)
 
 -- strings
 
-string-words : (vs : List Value) → Each String vs → map wordIn vs ≡ map length (stringsIn vs)
+pub string-words : (vs : List Value) → Each String vs → map wordIn vs ≡ map length (stringsIn vs)
 string-words [] f = refl
 string-words (number x ∷ vs) f = absurd (f .0)
 string-words (string s ∷ vs) f = ap (λ (r : List ℕ). length s ∷ r) (string-words vs (f .1))
 
-string-letters : (vs : List Value) → flat lettersIn vs ≡ flat (λ s. s) (stringsIn vs)
+pub string-letters : (vs : List Value) → flat lettersIn vs ≡ flat (λ s. s) (stringsIn vs)
 unfolding flat
 string-letters [] = refl
 string-letters (number x ∷ vs) = string-letters vs
 string-letters (string s ∷ vs) = rw (string-letters vs)
 
 -- a head that counts strings already, and one that counts no values yet
-string-head : (h : ℕ) (vs : List Value) → 2 * HALF ≤ h → Each String vs → headAfter h vs ≡ h + length vs
+pub string-head : (h : ℕ) (vs : List Value) → 2 * HALF ≤ h → Each String vs → headAfter h vs ≡ h + length vs
 string-head h [] g f = omega arith
 string-head h (number x ∷ vs) g f = absurd (f .0)
 string-head h (string s ∷ vs) g f = rw (le-ltb (upper h) 2 (omega arith)) (omega (arith, string-head (h + 1) vs (omega arith) (f .1)))

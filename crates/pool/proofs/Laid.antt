@@ -50,7 +50,7 @@ record Begun (p : Page) : Type 0 where
   stands : over (p .pen .heads - 1) (p .pen .head ∷ []) (p .memory) ≡ p .memory
 
 -- values for the statement opened last, and then statements
-abbrev behind : Gathered → Page → List ℕ
+abbrev pub behind : Gathered → Page → List ℕ
 behind g p =
     over (p .pen .values) (map wordIn (g .loose) ++ flat valuesOf (g .statements))
     (over (p .pen .names) (flat nameOf (g .statements))
@@ -205,6 +205,18 @@ behind-valued v p g b q k a =
 
 -- ---- all events
 
+-- what holds of the events after a value holds with it, whether or not the head of the statement opened last stands
+value-written : (v : Value) (es : List Event)
+    → ((p : Page) → Whole es → Even p → Begun p → Apart (p .pen) (length (statements es)) (givings es) → writtenOn es p .memory ≡ behind (gathered es) p)
+    → (p : Page) → Whole (value v ∷ es) → Even p → Apart (p .pen) (length (statements es)) (givings es + 1) → writtenOn (value v ∷ es) p .memory ≡ behind (gathered (value v ∷ es)) p
+unfolding writtenOn flat
+value-written v es f p w q a =
+    let l = length (statements es) in
+    let k = givings es in
+    ap (λ (x : Page). writtenOn es x .memory) (given-valued v p q)
+    ∙ f (valued v p) (w .1) (even-valued v (w .0) p q l k a) (begun-valued v (w .0) p q l k a) (apart-valued v (w .0) p q l k a)
+    ∙ behind-valued v p (gathered es) (w .0) q k a
+
 begun-written : (es : List Event) (p : Page) → Whole es → Even p → Begun p → Apart (p .pen) (length (statements es)) (givings es) → writtenOn es p .memory ≡ behind (gathered es) p
 unfolding writtenOn flat
 begun-written [] p w q s a =
@@ -225,12 +237,11 @@ begun-written (opened n o ∷ es) p w q s a =
     ∙ ap (λ (m : List ℕ). over (p .pen .values) (flat valuesOf ss) (over (p .pen .names) (flat nameOf ss) (over (p .pen .heads) (heads ss) m)))
     (ap (inkedAt (p .pen .bytes) (flat bytesOf ss)) (sym (s .stands))
     ∙ ink-over (p .pen .bytes) (flat bytesOf ss) (p .memory) (q .long) (p .pen .heads - 1) (p .pen .head ∷ []) (omega (arith, a .some, a .heads, a .names, a .values)))
-begun-written (value v ∷ es) p w q s a =
-    let l = length (statements es) in
-    let k = givings es in
-    ap (λ (x : Page). writtenOn es x .memory) (given-valued v p q)
-    ∙ begun-written es (valued v p) (w .1) (even-valued v (w .0) p q l k a) (begun-valued v (w .0) p q l k a) (apart-valued v (w .0) p q l k a)
-    ∙ behind-valued v p (gathered es) (w .0) q k a
+begun-written (value v ∷ es) p w q s a = value-written v es (begun-written es) p w q a
+
+pub given-written : (v : Value) (es : List Event) (p : Page) → Whole (value v ∷ es) → Even p → Apart (p .pen) (length (statements es)) (givings es + 1)
+    → writtenOn (value v ∷ es) p .memory ≡ behind (gathered (value v ∷ es)) p
+given-written v es p w q a = value-written v es (begun-written es) p w q a
 
 -- events that open a statement before any value
 pub all-written : (es : List Event) (p : Page) → gathered es .loose ≡ [] → Whole es → Even p → Apart (p .pen) (length (statements es)) (givings es)

@@ -7,14 +7,14 @@ use borrow.Author.Tests.{eqb-false, ltb-false}
 use lib.Dec.{eqb, ltb}
 use lib.ListN.{length}
 use Rattle.plain.specs.Choice.{if_then_else_}
-use Rattle.refusal.specs.declared.Refusal.the-variants.{LabelHeld, TextTooLong}
+use Rattle.refusal.specs.declared.Refusal.the-variants.{LabelHeld, TextTooLong, TextOpen}
 use Rattle.statement.specs.Statements.{Event}
 use Rattle.text.specs.Text.{Read, fine, refused, readText}
 use Rattle.plain.proofs.Each.{Each}
 use Rattle.plain.proofs.Tests.{true-false}
 use Rattle.layout.specs.State.{Pool}
 use Rattle.layout.specs.Limits.{room, LONGEST-LOAD}
-use Rattle.layout.specs.Memory.{decode, put}
+use Rattle.layout.specs.Memory.{decode, opens, put}
 use Rattle.layout.specs.Damage.{sound}
 use Rattle.layout.proofs.Holds.{decode-legal, decode-put, put-sound}
 use Rattle.layout.proofs.Legal.{Fair, Legal, fits-of, legal-add}
@@ -87,8 +87,17 @@ module _ (label : ℕ) (bytes : List ℕ) (m : List ℕ) (e : sound m ≡ true) 
 
   pub load-sound : sound (loadMemory label bytes m) ≡ true
   unfolding loadMemory loadReply
-  load-sound = rw e (keeps (done (loadAnswer label bytes (decode m))) refl .undamaged)
+  load-sound = rw e (by (opens m))
+    where
+      by : (o : Bool) → sound (if done (if o then refusing TextOpen else loadAnswer label bytes (decode m)) then put (with (decode m) (textOf label bytes)) m else m) ≡ true
+      by true = e
+      by false = keeps (done (loadAnswer label bytes (decode m))) refl .undamaged
 
   pub load-decode : decode (loadMemory label bytes m) ≡ (if done (loadReply label bytes m) then with (decode m) (textOf label bytes) else decode m)
   unfolding loadMemory loadReply
-  load-decode = rw e (keeps (done (loadAnswer label bytes (decode m))) refl .state)
+  load-decode = rw e (by (opens m))
+    where
+      by : (o : Bool) → let r = (if o then refusing TextOpen else loadAnswer label bytes (decode m)) in
+          decode (if done r then put (with (decode m) (textOf label bytes)) m else m) ≡ (if done r then with (decode m) (textOf label bytes) else decode m)
+      by true = refl
+      by false = keeps (done (loadAnswer label bytes (decode m))) refl .state

@@ -1,4 +1,4 @@
--- The answer of a load, question by question: 15, 1, 2, the first faulty line, 7. Assumes nothing.
+-- The answer of a load, question by question: 15, 22, 1, 2, the first faulty line, 7. Assumes nothing.
 use Prim.Native.Nat.{ℕ, _≤_, _<_}
 use native.Mathlib.Omega.{arith}
 use mathlib.Core.Path.{_≡_, refl, sym, ap, _∙_}
@@ -8,7 +8,7 @@ use borrow.Author.Tests.{lt-ltb, le-ltb}
 use lib.Dec.{ltb}
 use lib.ListN.{length}
 use Rattle.refusal.specs.declared.Refusal.{Refusal}
-use Rattle.refusal.specs.declared.Refusal.the-variants.{LabelHeld, TextTooLong, NoRoom, DamagedPool}
+use Rattle.refusal.specs.declared.Refusal.the-variants.{LabelHeld, TextTooLong, NoRoom, DamagedPool, TextOpen}
 use Rattle.value.specs.Faults.{refusalOf}
 use Rattle.statement.specs.Statements.{Event, openings, givings, bytesGiven}
 use Rattle.text.specs.Columns.{columnOf}
@@ -19,7 +19,7 @@ use Rattle.text.proofs.Columns.{place-most}
 use Rattle.value.specs.declared.faults.Fault.{Fault}
 use Rattle.layout.specs.State.{Pool}
 use Rattle.layout.specs.Limits.{room, LONGEST-LOAD}
-use Rattle.layout.specs.Memory.{decode, put}
+use Rattle.layout.specs.Memory.{decode, opens, put}
 use Rattle.layout.specs.Damage.{sound}
 use Rattle.pool.specs.Replies.{refusing}
 use Rattle.pool.specs.Load.{held, textOf, with, Counted, admitted, loadAnswer, loadReply, loadMemory, Loads, Accepts}
@@ -87,10 +87,14 @@ module _ (label : ℕ) (bytes m : List ℕ) where
   unfolding loadReply
   damaged e = refuses DamagedPool 0 0 (rw e)
 
-  module _ (e : sound m ≡ true) where
+  pub text-open : sound m ≡ true → opens m ≡ true → Loads label bytes m (refusing TextOpen) m
+  unfolding loadReply
+  text-open e o = refuses TextOpen 0 0 (rw (e, o))
+
+  module _ (e : sound m ≡ true) (o : opens m ≡ false) where
     undamaged : loadReply label bytes m ≡ loadAnswer label bytes (decode m)
     unfolding loadReply
-    undamaged = rw e
+    undamaged = rw (e, o)
 
     pub label-held : held label (decode m) ≡ true → Loads label bytes m (refusing LabelHeld) m
     label-held h = refuses LabelHeld 0 0 (undamaged ∙ label-asked label bytes (decode m) h)

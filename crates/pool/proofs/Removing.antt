@@ -1,4 +1,4 @@
--- The three answers of a removal: the pool is damaged, the label is not held, or the other texts are put. Assumes nothing.
+-- The four answers of a removal: the pool is damaged, a text is open, the label is not held, or the other texts are put. Assumes nothing.
 use mathlib.Core.Path.{_≡_, sym, ap, subst, _∙_}
 use mathlib.Core.Bool.{true, false}
 use mathlib.Core.List.{List, _∷_, _++_, map}
@@ -6,12 +6,12 @@ use Prim.Native.Nat.{ℕ, _≤_, _<_}
 use native.Mathlib.Omega.{arith}
 use borrow.Author.Tests.{lt-ltb, le-ltb}
 use lib.ListN.{length}
-use Rattle.refusal.specs.declared.Refusal.the-variants.{NotHeld, DamagedPool}
+use Rattle.refusal.specs.declared.Refusal.the-variants.{NotHeld, DamagedPool, TextOpen}
 use Rattle.words.specs.Halves.{place}
 use Rattle.plain.proofs.Each.{Each}
 use Rattle.words.proofs.Each.{Words}
 use Rattle.layout.specs.State.{Pool, program}
-use Rattle.layout.specs.Memory.{textCount, textWords, textWord, decode, put}
+use Rattle.layout.specs.Memory.{textCount, textWords, textWord, opens, decode, put}
 use Rattle.layout.specs.Damage.{sound}
 use Rattle.layout.proofs.Areas.{length-texts}
 use Rattle.layout.proofs.Sound.{Sound, sound-of}
@@ -65,20 +65,24 @@ module _ (l : ℕ) (m : List ℕ) (S : Sound m) where
     pub taken-here : takenOut at m ≡ put (without l (decode m)) m
     taken-here = ap (λ (k : ℕ). takenOut k m) here ∙ taken-out m (P .before) (P .text) (P .after) H F w ∙ sym (ap (λ (s : Pool). put s m) (P .rest))
 
--- ---- the three answers
+-- ---- the four answers
 
 module _ (l : ℕ) (m : List ℕ) where
   pub remove-refused : sound m ≡ false → Removes l m (refusing DamagedPool) m
   unfolding removeReply removeMemory
   remove-refused e = record { reply = rw e; memory = rw e }
 
-  pub remove-missing : sound m ≡ true → textCount m ≤ place l (textWords m) → Removes l m (refusing NotHeld) m
+  pub remove-open : sound m ≡ true → opens m ≡ true → Removes l m (refusing TextOpen) m
   unfolding removeReply removeMemory
-  remove-missing e h = let n = held-nowhere l m (sound-of m e) h in record { reply = rw (e, n); memory = rw (e, n) }
+  remove-open e o = record { reply = rw (e, o); memory = rw (e, o) }
 
-  pub remove-done : sound m ≡ true → Words m → place l (textWords m) < textCount m → (after : List ℕ) → after ≡ takenOut (place l (textWords m)) m → Removes l m Done after
+  pub remove-missing : sound m ≡ true → opens m ≡ false → textCount m ≤ place l (textWords m) → Removes l m (refusing NotHeld) m
   unfolding removeReply removeMemory
-  remove-done e w h after a =
+  remove-missing e o h = let n = held-nowhere l m (sound-of m e) h in record { reply = rw (e, o, n); memory = rw (e, o, n) }
+
+  pub remove-done : sound m ≡ true → opens m ≡ false → Words m → place l (textWords m) < textCount m → (after : List ℕ) → after ≡ takenOut (place l (textWords m)) m → Removes l m Done after
+  unfolding removeReply removeMemory
+  remove-done e o w h after a =
       let S = sound-of m e in
       let n = held-here l m S h in
-      record { reply = rw (e, n); memory = rw (e, n) (a ∙ taken-here l m S w h) }
+      record { reply = rw (e, o, n); memory = rw (e, o, n) (a ∙ taken-here l m S w h) }

@@ -1,6 +1,6 @@
 -- "A text is accepted exactly when its label is not held, the rules admit it and the undamaged pool has room." "Order: 15 first; then by
--- call 1, 2, the first faulty line (in it 3, then 4, then whichever of 5 and 6 starts at the earlier byte), 7"; 17 to 21 "stand where 5 stood".
--- Definitions only.
+-- call 1, 2, the first faulty line (in it 3, then 4, then whichever of 5 and 6 starts at the earlier byte), 7"; 17 to 21 "stand where 5 stood";
+-- 22 "stands after 15". Definitions only.
 use Prim.Native.Nat.{ℕ, _≤_}
 use mathlib.Core.Path.{_≡_}
 use mathlib.Core.Bool.{Bool, true, false}
@@ -8,14 +8,14 @@ use mathlib.Core.List.{List, [], _∷_, _++_}
 use lib.Dec.{eqb, ltb}
 use lib.ListN.{length}
 use Rattle.plain.specs.Choice.{if_then_else_}
-use Rattle.refusal.specs.declared.Refusal.the-variants.{LabelHeld, TextTooLong, NoRoom, DamagedPool}
+use Rattle.refusal.specs.declared.Refusal.the-variants.{LabelHeld, TextTooLong, NoRoom, DamagedPool, TextOpen}
 use Rattle.value.specs.Faults.{refusalOf}
 use Rattle.statement.specs.Statements.{Event, statements, openings, givings, bytesGiven}
 use Rattle.text.specs.Columns.{columnOf}
 use Rattle.text.specs.Text.{Read, fine, refused, readText, added}
 use Rattle.layout.specs.State.{Text, Pool, flat, valuesOf, bytesOf}
 use Rattle.layout.specs.Limits.{room, LONGEST-LOAD}
-use Rattle.layout.specs.Memory.{decode, put}
+use Rattle.layout.specs.Memory.{decode, put, opens}
 use Rattle.layout.specs.Damage.{sound}
 use Rattle.pool.specs.Replies.{done, refusing}
 use Rattle.pool.specs.declared.reply.Reply.{Reply}
@@ -55,7 +55,8 @@ loadAnswer label bytes s =
 
 unfoldable pub loadReply : (label : ℕ) (bytes m : List ℕ) → Reply
 unfolding loadAnswer
-loadReply label bytes m = if sound m then loadAnswer label bytes (decode m) else refusing DamagedPool
+loadReply label bytes m =
+    if sound m then (if opens m then refusing TextOpen else loadAnswer label bytes (decode m)) else refusing DamagedPool
 
 unfoldable pub loadMemory : (label : ℕ) (bytes m : List ℕ) → List ℕ
 unfolding loadReply

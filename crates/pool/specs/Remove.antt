@@ -1,13 +1,13 @@
--- "Room freed by a removal can be used again.": the text under a label goes, and the others keep their order; 8 where "label not held".
--- Definitions only.
+-- "Room freed by a removal can be used again.": the text under a label goes, and the others keep their order; 8 where "label not held",
+-- 22 while a text is open. Definitions only.
 use Prim.Native.Nat.{ℕ}
 use mathlib.Core.Path.{_≡_}
 use mathlib.Core.List.{List, [], _∷_}
 use lib.Dec.{eqb}
 use Rattle.plain.specs.Choice.{if_then_else_}
-use Rattle.refusal.specs.declared.Refusal.the-variants.{NotHeld, DamagedPool}
+use Rattle.refusal.specs.declared.Refusal.the-variants.{NotHeld, DamagedPool, TextOpen}
 use Rattle.layout.specs.State.{Pool}
-use Rattle.layout.specs.Memory.{decode, put}
+use Rattle.layout.specs.Memory.{decode, put, opens}
 use Rattle.layout.specs.Damage.{sound}
 use Rattle.pool.specs.Replies.{done, refusing}
 use Rattle.pool.specs.Load.{held}
@@ -25,7 +25,8 @@ removeAnswer label s = if held label s then Done else refusing NotHeld
 
 unfoldable pub removeReply : (label : ℕ) (m : List ℕ) → Reply
 unfolding held
-removeReply label m = if sound m then removeAnswer label (decode m) else refusing DamagedPool
+removeReply label m =
+    if sound m then (if opens m then refusing TextOpen else removeAnswer label (decode m)) else refusing DamagedPool
 
 unfoldable pub removeMemory : (label : ℕ) (m : List ℕ) → List ℕ
 unfolding removeReply without

@@ -1,7 +1,9 @@
 // Load: "A text is accepted exactly when its label is not held, the rules admit it and the undamaged pool has room."
 use crate::reply::Reply;
 use layout::area::texts_of;
+use layout::check::is_open;
 use layout::check::is_sound;
+use layout::front::write_front;
 use layout::limits::BYTE_COUNT;
 use layout::limits::BYTES;
 use layout::limits::HALF;
@@ -12,7 +14,6 @@ use layout::limits::TEXTS;
 use layout::limits::TEXTS_AT;
 use layout::limits::VALUE_COUNT;
 use layout::limits::VALUES;
-use layout::total::write_totals;
 use page::pen::pen_behind;
 use refusal::Refusal;
 use text::Checked;
@@ -39,6 +40,9 @@ pub fn load(pool: &mut [u64], label: u32, text: &[u8]) -> Reply
     if !is_sound(pool) {
         return Reply::Refused(Refusal::DamagedPool, 0, 0);
     }
+    if is_open(pool) {
+        return Reply::Refused(Refusal::TextOpen, 0, 0);
+    }
     if is_held(pool, label) {
         return Reply::Refused(Refusal::LabelHeld, 0, 0);
     }
@@ -61,7 +65,7 @@ pub fn load(pool: &mut [u64], label: u32, text: &[u8]) -> Reply
 }
 
 // A text is held under the label.
-fn is_held(pool: &[u64], label: u32) -> bool
+pub fn is_held(pool: &[u64], label: u32) -> bool
     requires { ⌜ Framed (now pool) ⌝ }
     ensures { λ r. ⌜ r ≡ held label (decode (now (pool .entry))) ⌝ }
 {
@@ -89,7 +93,7 @@ fn has_room(pool: &[u64], statements: usize, values: usize, bytes: usize) -> boo
     true
 }
 
-// An accepted text of so many statements, values and bytes in strings is written behind what is held, and the totals last.
+// An accepted text of so many statements, values and bytes in strings is written behind what is held, and the front last.
 fn add(pool: &mut [u64], label: u32, text: &[u8], statements: usize, values: usize, bytes: usize)
     requires { ⌜ Accepts label (now text) statements values bytes (now pool) ⌝ }
     ensures { λ _. ⌜ now (pool .exit) ≡ put (with (decode (now (pool .entry))) (textOf label (now (text .entry)))) (now (pool .entry)) ⌝ }
@@ -105,7 +109,7 @@ fn add(pool: &mut [u64], label: u32, text: &[u8], statements: usize, values: usi
         (label as u64) * HALF + (statements as u64),
     );
     write_text(pool, pen, text);
-    write_totals(
+    write_front(
         pool,
         texts + 1,
         opened + (statements as u64),

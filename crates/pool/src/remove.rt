@@ -1,6 +1,7 @@
 // Remove: the text under a label goes, and what stands after it in every area moves down.
 use crate::reply::Reply;
 use layout::area::texts_of;
+use layout::check::is_open;
 use layout::check::is_sound;
 use layout::limits::TEXT_COUNT;
 use refusal::Refusal;
@@ -13,6 +14,9 @@ pub fn remove(pool: &mut [u64], label: u32) -> Reply
 {
     if !is_sound(pool) {
         return Reply::Refused(Refusal::DamagedPool, 0, 0);
+    }
+    if is_open(pool) {
+        return Reply::Refused(Refusal::TextOpen, 0, 0);
     }
     let place = place_of(texts_of(pool), label as u64);
     if pool[TEXT_COUNT] as usize <= place {

@@ -15,7 +15,7 @@ use Rattle.words.proofs.Each.{Words}
 use Rattle.plain.proofs.Each.{Each, each-left, each-right}
 use Rattle.layout.specs.State.{Text, Pool, program, flat, valuesOf, bytesOf, values, stringBytes}
 use Rattle.layout.specs.Limits.{TEXTS-AT, HEADS-AT, NAMES-AT, VALUES-AT}
-use Rattle.layout.specs.Memory.{textCount, statementCount, valueCount, byteCount, valueWords, bytesTaken, textWord, headWord, put}
+use Rattle.layout.specs.Memory.{NONE-OPEN, textCount, statementCount, valueCount, byteCount, valueWords, bytesTaken, textWord, headWord, put}
 use Rattle.layout.specs.Damage.{totalBytes}
 use Rattle.layout.proofs.Columns.{At, at-left, at-right, closeColumns, flat-append, flat-map}
 use Rattle.layout.proofs.Spelling.{brief-fair}
@@ -219,4 +219,4 @@ module _ (m : List ℕ) (a : Pool) (t : Text) (b : Pool) (H : Holds m (a ++ (t �
       let z : left (valueGap s m) ≡ length (values (a ++ b)) = omega (arith, values-before, values-inside, count-values, ap length (values-append a b), length-append (values a) (values b)) in
       let u : left (byteGap s m) ≡ length (stringBytes (a ++ b)) =
       omega (arith, bytes-before, bytes-inside, count-bytes, ap length (bytes-append a b), length-append (stringBytes a) (stringBytes b)) in
-      (λ i. over 0 (x i ∷ y i ∷ z i ∷ u i ∷ []) (columns i)) ∙ changes.closed m a t b H w
+      (λ i. over 0 (x i ∷ y i ∷ z i ∷ u i ∷ NONE-OPEN ∷ []) (columns i)) ∙ changes.closed m a t b H w

@@ -7,8 +7,8 @@ use Rattle.words.specs.Over.{over, part, moved}
 use Rattle.words.specs.Halves.{lower, sum}
 use Rattle.octets.specs.Octets.{octets, inkedIn}
 use Rattle.names.specs.Names.{NAMEWORDS}
-use Rattle.layout.specs.Limits.{TEXTS, STATEMENTS, VALUES, BYTES, WORDS, BYTEWORDS, TEXTS-AT, HEADS-AT, NAMES-AT, VALUES-AT, BYTES-AT}
-use Rattle.layout.specs.Memory.{textCount, statementCount, valueCount, byteCount, valueWords}
+use Rattle.layout.specs.Limits.{TEXTWORDS, STATEMENTS, VALUES, BYTES, WORDS, BYTEWORDS, TEXTS-AT, HEADS-AT, NAMES-AT, VALUES-AT, BYTES-AT}
+use Rattle.layout.specs.Memory.{NONE-OPEN, textCount, statementCount, valueCount, byteCount, valueWords}
 use Rattle.layout.specs.Damage.{Framed, totalBytes}
 use Rattle.removing.specs.declared.gap.Gap.{Gap}
 
@@ -73,7 +73,7 @@ closingBytes g m = inkedIn BYTES-AT BYTEWORDS (g .before) (part (g .before + g .
 unfoldable pub closed : (texts statements values bytes : Gap) → List ℕ → List ℕ
 closed t s v b m = closing VALUES-AT v (closing NAMES-AT (fourfold s) (closing HEADS-AT s (closing TEXTS-AT t (closingBytes b m))))
 
--- the memory without the text at a place: every area, and then the totals
+-- the memory without the text at a place: every area, and then the words in front
 unfoldable pub takenOut : (place : ℕ) → List ℕ → List ℕ
 unfolding closed
 takenOut place m =
@@ -81,7 +81,7 @@ takenOut place m =
     let s = statementGap place m in
     let v = valueGap s m in
     let b = byteGap s m in
-    over 0 (left t ∷ left s ∷ left v ∷ left b ∷ []) (closed t s v b m)
+    over 0 (left t ∷ left s ∷ left v ∷ left b ∷ NONE-OPEN ∷ []) (closed t s v b m)
 
 -- ---- what the functions require: the gap lies within the totals
 
@@ -101,7 +101,7 @@ whole g = g .before + g .inside + g .after
 
 pub record Closes (t s v b : Gap) (m : List ℕ) : Type 0 where
   pub words : length m ≡ WORDS
-  pub texts : whole t ≤ TEXTS
+  pub texts : whole t ≤ TEXTWORDS
   pub statements : whole s ≤ STATEMENTS
   pub values : whole v ≤ VALUES
   pub bytes : whole b ≤ BYTES

@@ -1,5 +1,6 @@
 // A text's gap in every area, and how it is closed.
 use layout::area::values_of;
+use layout::front::write_front;
 use layout::limits::BYTE_COUNT;
 use layout::limits::BYTES_AT;
 use layout::limits::BYTEWORDS;
@@ -12,7 +13,6 @@ use layout::limits::TEXTS_AT;
 use layout::limits::VALUE_COUNT;
 use layout::limits::VALUES_AT;
 use layout::taken::sum_bytes;
-use layout::total::write_totals;
 use names::pack::NAMEWORDS;
 use octets::area::shift_bytes_in;
 use words::read::part_of;
@@ -33,7 +33,7 @@ pub struct Gap {
     pub after: usize,
 }
 
-// The text at a place goes, with its statements, their values and the bytes of their strings; the totals are written last.
+// The text at a place goes, with its statements, their values and the bytes of their strings; the front is written last.
 pub fn take_out(m: &mut [u64], place: usize)
     requires { ⌜ Gapped place (now m) ⌝ }
     ensures { λ _. ⌜ now (m .exit) ≡ takenOut place (now (m .entry)) ⌝ }
@@ -43,7 +43,7 @@ pub fn take_out(m: &mut [u64], place: usize)
     let values = value_gap(m, statements);
     let bytes = byte_gap(m, statements);
     close_areas(m, texts, statements, values, bytes);
-    write_totals(
+    write_front(
         m,
         count(texts),
         count(statements),

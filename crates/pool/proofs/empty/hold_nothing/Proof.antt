@@ -1,4 +1,4 @@
--- `hold_nothing` meets its contract: putting no texts writes the totals alone. Assumes nothing.
+-- `hold_nothing` meets its contract: putting no texts writes the front alone. Assumes nothing.
 use mathlib.Core.Path.{sym, _∙_}
 use borrow.Author.Needs.{needs}
 use Rattle.words.proofs.Each.{words-of}
@@ -6,8 +6,8 @@ use Rattle.pool.proofs.Emptying.{put-none}
 use Rattle.pool.proofs.empty.hold_nothing.Statement.{statement}
 use Rattle.pool.proofs.empty.hold_nothing.Tie as tie
 
-write-totals-requires : tie.Need-write-totals-requires
-write-totals-requires c κs = search needs
+write-front-requires : tie.Need-write-front-requires
+write-front-requires c κs = search needs
 
 same-length : tie.Need-same-length
 same-length c = search needs
@@ -15,7 +15,7 @@ same-length c = search needs
 returns : tie.Need-returns
 returns c =
     let k = c .before .before .before .before in
-    c .before .before .write-totals .ensures ∙ sym (put-none _ (words-of (k .before .args .pool .now) (λ i. k .slice-known .given i .fits)))
+    c .before .before .write-front .ensures ∙ sym (put-none _ (words-of (k .before .args .pool .now) (λ i. k .slice-known .given i .fits)))
 
 pub hold-nothing-spec : {M : Type 1} → statement M
-hold-nothing-spec = tie.close (tie.spec write-totals-requires same-length returns)
+hold-nothing-spec = tie.close (tie.spec write-front-requires same-length returns)

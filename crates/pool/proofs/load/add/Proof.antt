@@ -1,4 +1,4 @@
--- `add` meets its contract: the text's word, what the text adds and the totals make the state with one text more. Assumes nothing.
+-- `add` meets its contract: the text's word, what the text adds and the front make the state with one text more. Assumes nothing.
 use native.Mathlib.Omega.{arith}
 use borrow.Author.Needs.{needs}
 use Rattle.words.proofs.Each.{words-of}
@@ -49,20 +49,20 @@ write-text-requires c κs =
     let a = entry p in
     (sized _ _ _ _ _ _ (a .pre) _ (c .before .before .before .store .ensures), admits _ _ _ _ _ _ (a .pre) _ (p .pen-behind .ensures))
 
-add-write-totals : tie.Need-add-write-totals
-add-write-totals c = omega (arith, leaves _ _ _ _ _ _ (entry (pen-known (c .before .before .before)) .pre) .texts)
+add-write-front : tie.Need-add-write-front
+add-write-front c = omega (arith, leaves _ _ _ _ _ _ (entry (pen-known (c .before .before .before)) .pre) .texts)
 
-add-write-totals-2 : tie.Need-add-write-totals-2
-add-write-totals-2 c = omega (arith, leaves _ _ _ _ _ _ (entry (pen-known (c .before .before .before)) .pre) .statements)
+add-write-front-2 : tie.Need-add-write-front-2
+add-write-front-2 c = omega (arith, leaves _ _ _ _ _ _ (entry (pen-known (c .before .before .before)) .pre) .statements)
 
-add-write-totals-3 : tie.Need-add-write-totals-3
-add-write-totals-3 c = omega (arith, leaves _ _ _ _ _ _ (entry (pen-known (c .before .before .before)) .pre) .values)
+add-write-front-3 : tie.Need-add-write-front-3
+add-write-front-3 c = omega (arith, leaves _ _ _ _ _ _ (entry (pen-known (c .before .before .before)) .pre) .values)
 
-add-write-totals-4 : tie.Need-add-write-totals-4
-add-write-totals-4 c = omega (arith, leaves _ _ _ _ _ _ (entry (pen-known (c .before .before .before)) .pre) .bytes)
+add-write-front-4 : tie.Need-add-write-front-4
+add-write-front-4 c = omega (arith, leaves _ _ _ _ _ _ (entry (pen-known (c .before .before .before)) .pre) .bytes)
 
-write-totals-requires : tie.Need-write-totals-requires
-write-totals-requires c κs = search needs
+write-front-requires : tie.Need-write-front-requires
+write-front-requires c κs = search needs
 
 same-length : tie.Need-same-length
 same-length c = search needs
@@ -73,7 +73,7 @@ returns c =
     let s = w .before .before .before .before in
     let p = pen-known w in
     let k = p .before .before .before .before .before .before in
-    added-put _ _ _ _ _ _ (k .before .pre) (words-of (k .before .args .pool .now) (λ i. k .slice-known .given i .fits)) _ _ _ _ _ (p .pen-behind .ensures) (s .store .ensures) (w .write-text .ensures) (c .before .before .write-totals .ensures)
+    added-put _ _ _ _ _ _ (k .before .pre) (words-of (k .before .args .pool .now) (λ i. k .slice-known .given i .fits)) _ _ _ _ _ (p .pen-behind .ensures) (s .store .ensures) (w .write-text .ensures) (c .before .before .write-front .ensures)
 
 pub add-spec : {M : Type 1} → statement M
 add-spec =
@@ -89,10 +89,10 @@ add-spec =
     add-store-2
     store-requires
     write-text-requires
-    add-write-totals
-    add-write-totals-2
-    add-write-totals-3
-    add-write-totals-4
-    write-totals-requires
+    add-write-front
+    add-write-front-2
+    add-write-front-3
+    add-write-front-4
+    write-front-requires
     same-length
     returns)

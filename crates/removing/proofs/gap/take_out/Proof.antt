@@ -5,6 +5,7 @@ use Prim.Native.Nat.{ℕ}
 use native.Mathlib.Omega.{arith}
 use borrow.Author.Needs.{needs}
 use Rattle.words.specs.Over.{over}
+use Rattle.layout.specs.Memory.{NONE-OPEN}
 use Rattle.removing.specs.Gaps.{textGap, statementGap, valueGap, byteGap, left, closed, takenOut, Spanned, Gapped, Closes}
 use Rattle.removing.specs.declared.gap.Gap.{Gap}
 use Rattle.removing.proofs.gap.take_out.Statement.{statement}
@@ -38,11 +39,11 @@ module _ (p : ℕ) (m : List ℕ) (t s v b : Gap) (F : Found p m t s v b) where
       (subst (λ (g : Gap). Closes (textGap p m) (statementGap p m) g b m) (sym (F .values))
       (subst (λ (g : Gap). Closes (textGap p m) (statementGap p m) (valueGap (statementGap p m) m) g m) (sym (F .bytes)) own)))
 
-  out : (x y z u : ℕ) (m₁ m₂ : List ℕ) → x ≡ left t → y ≡ left s → z ≡ left v → u ≡ left b → m₁ ≡ closed t s v b m → m₂ ≡ over 0 (x ∷ y ∷ z ∷ u ∷ []) m₁ → m₂ ≡ takenOut p m
+  out : (x y z u : ℕ) (m₁ m₂ : List ℕ) → x ≡ left t → y ≡ left s → z ≡ left v → u ≡ left b → m₁ ≡ closed t s v b m → m₂ ≡ over 0 (x ∷ y ∷ z ∷ u ∷ NONE-OPEN ∷ []) m₁ → m₂ ≡ takenOut p m
   unfolding takenOut
   out x y z u m₁ m₂ ex ey ez eu e₁ e₂ =
-      e₂ ∙ (λ i. over 0 (ex i ∷ ey i ∷ ez i ∷ eu i ∷ []) (e₁ i))
-      ∙ (λ i. over 0 (left (F .texts i) ∷ left (F .statements i) ∷ left (F .values i) ∷ left (F .bytes i) ∷ []) (closed (F .texts i) (F .statements i) (F .values i) (F .bytes i) m))
+      e₂ ∙ (λ i. over 0 (ex i ∷ ey i ∷ ez i ∷ eu i ∷ NONE-OPEN ∷ []) (e₁ i))
+      ∙ (λ i. over 0 (left (F .texts i) ∷ left (F .statements i) ∷ left (F .values i) ∷ left (F .bytes i) ∷ NONE-OPEN ∷ []) (closed (F .texts i) (F .statements i) (F .values i) (F .bytes i) m))
 
 -- ---- the needs
 
@@ -91,8 +92,8 @@ count-requires-3 c κs = omega (arith, fits (c .before .before .before .before .
 count-requires-4 : tie.Need-count-requires-4
 count-requires-4 c κs = omega (arith, fits (c .before .before .before .before .before .before .before .before) .bytes)
 
-write-totals-requires : tie.Need-write-totals-requires
-write-totals-requires c κs = search needs
+write-front-requires : tie.Need-write-front-requires
+write-front-requires c κs = search needs
 
 same-length : tie.Need-same-length
 same-length c = search needs
@@ -103,7 +104,7 @@ returns c =
     let k = w .before .before .before .before in
     let z = k .before .before .before .before in
     out _ _ _ _ _ _ (found (z .before .before)) _ _ _ _ _ _
-    (k .count .ensures) (w .before .before .before .count2 .ensures) (w .before .before .count3 .ensures) (w .before .count4 .ensures) (z .close-areas .ensures) (w .write-totals .ensures)
+    (k .count .ensures) (w .before .before .before .count2 .ensures) (w .before .before .count3 .ensures) (w .before .count4 .ensures) (z .close-areas .ensures) (w .write-front .ensures)
 
 pub take-out-spec : {M : Type 1} → statement M
 take-out-spec =
@@ -118,6 +119,6 @@ take-out-spec =
     count-requires-2
     count-requires-3
     count-requires-4
-    write-totals-requires
+    write-front-requires
     same-length
     returns)
