@@ -1,0 +1,3 @@
+-- An open text in a pool.
+pub mod Storing
+pub mod Closing
