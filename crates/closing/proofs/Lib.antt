@@ -1,0 +1,2 @@
+-- Laws of the closing of an open text.
+pub mod Closing

@@ -1,0 +1,1 @@
+// What the four calls on a text in parts leave: laws alone.
