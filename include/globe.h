@@ -9,6 +9,11 @@
  * and reads and writes nothing but what is lent to it. So calls on different pools may run at the
  * same time, and so may calls that take the same pool as const.
  *
+ * Parts. A text is loaded at once by globe_load, or opened, fed with parts and closed: so a card
+ * reader's blocks can be passed on as they come, and a text may have 4,194,304 bytes. Where it is
+ * cut does not matter. One text may be open at a time, and its memory is in the pool. Until it is
+ * closed, queries see what is held without it, and a fault of it is told at closing only.
+ *
  * Lent memory. Each pointer goes with the number of elements behind it, and must not be NULL unless
  * that number is 0. With 0 it is not looked at, and NULL stands for an empty slice: an empty text,
  * an empty name, a buffer without room. The pool, text, name and buffer of one call must not
@@ -18,9 +23,9 @@
  * from 1: where the text is faulty, for the refusals 3, 4, 6 and 17 to 21, and 0 otherwise. Columns
  * count bytes, a tab as one, and where something is missing the column is one past the line. The
  * values and counts of a refused answer are zeros. Zeros look like a pole and a meridian: look at
- * the number first. A refused call leaves every byte of the pool and of the buffer as it was. Where
- * several refusals apply, the answer is the one that is asked first; below, each call has its
- * refusals in that order.
+ * the number first. A refused call leaves every byte of the pool and of the buffer as it was, but
+ * that a refused globe_close ends the open text. Where several refusals apply, the answer is the
+ * one that is asked first; below, each call has its refusals in that order.
  *
  * Arithmetic. The values are fixed to the last bit; a number of a text is the double nearest to it,
  * and of two that are as near the one with the even significand. For that the caller owes the
@@ -47,13 +52,14 @@ extern "C" {
  * The words of a pool, for memory that is laid out at compile time; globe_pool_words tells what the
  * linked library wants.
  */
-#define GLOBE_POOL_WORDS 6676
+#define GLOBE_POOL_WORDS 6707
 
 /*
- * The most bytes of a text, the most values of a variable, and the most bytes of a string: a buffer
- * of so many is never too short.
+ * The most bytes of a text that is loaded at once, and of one that is fed in parts; the most values
+ * of a variable, and the most bytes of a string: a buffer of so many is never too short.
  */
 #define GLOBE_TEXT_BYTES 65536
+#define GLOBE_PARTS_BYTES 4194304
 #define GLOBE_VALUES 3072
 #define GLOBE_STRING 60
 
@@ -61,7 +67,7 @@ extern "C" {
 enum globe_number {
     GLOBE_OK = 0,            /* not refused */
     GLOBE_LABEL_HELD = 1,    /* the label is held already */
-    GLOBE_TEXT_TOO_LONG = 2, /* the text has over 65,536 bytes */
+    GLOBE_TEXT_TOO_LONG = 2, /* the text has over 65,536 bytes, or over 4,194,304 in parts */
     GLOBE_LINE_TOO_LONG = 3, /* a data or delimiter line has over 132 bytes, its end not counted
                                 (133) */
     GLOBE_BAD_BYTE = 4,      /* the data line has a byte that is neither 32 to 126 nor a tab (of the
@@ -71,7 +77,7 @@ enum globe_number {
                                 number's first byte) */
     GLOBE_NO_ROOM = 7,       /* held and new are over 16 texts, 512 statements, 3,072 values or
                                 8,192 bytes of strings */
-    GLOBE_NOT_HELD = 8,      /* the label is not held */
+    GLOBE_NOT_HELD = 8,      /* the label is not held, or no text is open */
     GLOBE_EPOCH = 9,         /* the epoch is not finite, or over 157,788,000,000 s from J2000 */
     GLOBE_UNKNOWN_BODY = 10, /* no such code, or the source has nothing of what is asked */
     GLOBE_INCOMPLETE = 11,   /* some of the variables that the orientation wants are missing */
@@ -89,6 +95,7 @@ enum globe_number {
     GLOBE_OPEN_LIST = 20,    /* the list is empty (of its bracket), or open at a delimiter line (1)
                                 or at the text's end (one past its last line) */
     GLOBE_REST_OF_LINE = 21, /* more than blanks follows the statement (of the first such byte) */
+    GLOBE_TEXT_OPEN = 22,    /* a text is open */
     GLOBE_BAD_DEGREE = 23,   /* the degree of a system's angles is not one number, 1, 2 or 3 */
     GLOBE_BAD_RADIUS = 24,   /* a radius of the pool is not greater than 0 */
     GLOBE_BAD_RING = 25,     /* a motor's ring has 2 to 4,096 positions, and not so many */
@@ -148,34 +155,66 @@ typedef struct {
 size_t globe_pool_words(void);
 
 /*
- * Makes memory an empty pool, whatever it held.
+ * Makes memory an empty pool, whatever it held; a text that is open is dropped.
  * Refused: 15 DAMAGED POOL, if words is not globe_pool_words(); the content is not looked at.
- * It writes the totals; words that are out of use keep what they held.
+ * It writes the totals and that no text is open; words that are out of use keep what they held.
  */
 globe_reply globe_make_empty(uint64_t *pool, size_t words);
 
 /*
  * Loads a text of so many bytes under a label, any number. Its statements come after those of the
  * texts loaded before it.
- * Refused: 15 DAMAGED POOL; 1 LABEL HELD; 2 TEXT TOO LONG; then, for the first faulty line, which
- * the answer tells with the column, 3 LINE TOO LONG, 4 BAD BYTE, and whichever of 17 BAD NAME, 18
- * NO OPERATOR, 19 BAD VALUE, 20 OPEN LIST, 21 REST OF LINE and 6 NUMBER starts at the earliest byte
- * (19 before 6 for a number among strings); 7 NO ROOM.
+ * Refused: 15 DAMAGED POOL; 22 TEXT OPEN; 1 LABEL HELD; 2 TEXT TOO LONG, over GLOBE_TEXT_BYTES;
+ * then, for the first faulty line, which the answer tells with the column, 3 LINE TOO LONG, 4 BAD
+ * BYTE, and whichever of 17 BAD NAME, 18 NO OPERATOR, 19 BAD VALUE, 20 OPEN LIST, 21 REST OF LINE
+ * and 6 NUMBER starts at the earliest byte (19 before 6 for a number among strings); 7 NO ROOM.
  * The text is only read. A text of no statements is loaded too, and takes a label.
  */
 globe_reply globe_load(uint64_t *pool, size_t words, uint32_t label, const uint8_t *text,
                        size_t bytes);
 
 /*
+ * Opens a text under a label, any number that is not held. It has no bytes yet.
+ * Refused: 15 DAMAGED POOL; 22 TEXT OPEN; 1 LABEL HELD.
+ * With 16 texts held it is opened too; closing then tells that there is no room.
+ */
+globe_reply globe_open(uint64_t *pool, size_t words, uint32_t label);
+
+/*
+ * Feeds the open text with a part of so many bytes, which may be 0. Nothing about the text is told
+ * here: it is fed on also past a fault, past the pool's room and past GLOBE_PARTS_BYTES.
+ * Refused: 15 DAMAGED POOL; 8 NOT HELD, if no text is open.
+ * The part is only read, and is not wanted any more after the call.
+ */
+globe_reply globe_feed(uint64_t *pool, size_t words, const uint8_t *part, size_t bytes);
+
+/*
+ * Closes the open text: it is held under its label, after the texts loaded before it, as if all its
+ * bytes had been loaded at once.
+ * Refused: 15 DAMAGED POOL; 8 NOT HELD, if no text is open; 2 TEXT TOO LONG, over
+ * GLOBE_PARTS_BYTES; then as for globe_load, for the first faulty line, which the answer tells with
+ * the column, 3, 4, 6 and 17 to 21; 7 NO ROOM.
+ * Refused by any but 15 and 8, the text is open no longer, its label is free, and nothing else has
+ * changed.
+ */
+globe_reply globe_close(uint64_t *pool, size_t words);
+
+/*
+ * Drops the open text: it was never there, and its label is free.
+ * Refused: 15 DAMAGED POOL; 8 NOT HELD, if no text is open.
+ */
+globe_reply globe_drop(uint64_t *pool, size_t words);
+
+/*
  * Takes out the text under a label: the pool then answers as if that text had never been loaded,
  * and has its room again.
- * Refused: 15 DAMAGED POOL; 8 NOT HELD.
+ * Refused: 15 DAMAGED POOL; 22 TEXT OPEN; 8 NOT HELD.
  */
 globe_reply globe_remove(uint64_t *pool, size_t words, uint32_t label);
 
 /*
  * Takes out all texts.
- * Refused: 15 DAMAGED POOL (globe_make_empty mends a pool of the right size).
+ * Refused: 15 DAMAGED POOL (globe_make_empty mends a pool of the right size); 22 TEXT OPEN.
  * It writes the totals; words that are out of use keep what they held.
  */
 globe_reply globe_clear(uint64_t *pool, size_t words);

@@ -2,6 +2,9 @@
 use super::orientation;
 use super::radii;
 use super::source::Source;
+use closing::ending;
+use intake::begin;
+use intake::parts;
 use pool::empty;
 use pool::fetch;
 use pool::fetch_string;
@@ -20,6 +23,7 @@ ghost use Rattle.pool.specs.FetchString.{FetchesString};
 ghost use Rattle.pool.specs.Load.{Loads};
 ghost use Rattle.pool.specs.Remove.{Removes};
 ghost use Rattle.pool.specs.Totals.{Totals};
+ghost use Rattle.intake.specs.Calls.{Opens, Feeds, Closes, Drops};
 ghost use Rattle.globe.specs.Orientation.{Orients};
 ghost use Rattle.globe.specs.Radii.{Measures};
 
@@ -35,6 +39,34 @@ pub fn load(pool: &mut [u64], label: u32, text: &[u8]) -> Reply
     ensures { λ r. ⌜ Loads label (now (text .entry)) (now (pool .entry)) r (now (pool .exit)) ⌝ }
 {
     load::load(pool, label, text)
+}
+
+// A text is opened under a label, to come in parts; what is held stays as it was.
+pub fn open_text(pool: &mut [u64], label: u32) -> Reply
+    ensures { λ r. ⌜ Opens label (now (pool .entry)) r (now (pool .exit)) ⌝ }
+{
+    begin::open_text(pool, label)
+}
+
+// A part more of the open text, of any length.
+pub fn feed_text(pool: &mut [u64], part: &[u8]) -> Reply
+    ensures { λ r. ⌜ Feeds (now (part .entry)) (now (pool .entry)) r (now (pool .exit)) ⌝ }
+{
+    parts::feed_text(pool, part)
+}
+
+// The open text is put last, as if its parts had been loaded at once; or it is refused, and open no more.
+pub fn close_text(pool: &mut [u64]) -> Reply
+    ensures { λ r. ⌜ Closes (now (pool .entry)) r (now (pool .exit)) ⌝ }
+{
+    ending::close_text(pool)
+}
+
+// The open text counts as never loaded.
+pub fn drop_text(pool: &mut [u64]) -> Reply
+    ensures { λ r. ⌜ Drops (now (pool .entry)) r (now (pool .exit)) ⌝ }
+{
+    parts::drop_text(pool)
 }
 
 // The text under a label is taken out.

@@ -1,5 +1,5 @@
--- Thirty-two bits lose nothing: a line is one of a text of at most 65,536 bytes, a column is at most 133, a count is one of at most 3,072 held values or of a string's
--- at most 60 bytes, so each is its own remainder. Assumes nothing.
+-- Thirty-two bits lose nothing: a line is one of a text of at most 4,194,304 bytes, a column is at most 134, a count is one of at most 3,072 held values or of a
+-- string's at most 60 bytes, so each is its own remainder. Assumes nothing.
 use mathlib.Core.Path.{_≡_, refl, sym, _∙_}
 use mathlib.Core.Bool.{Bool, true, false, _&&_}
 use mathlib.Core.List.{List, [], _∷_, _++_}
@@ -20,13 +20,13 @@ use Rattle.text.proofs.Columns.{place-most}
 use Rattle.plain.proofs.Each.{Each, each-append}
 use Rattle.layout.specs.State.{Pool, program, flat, wordsOf, valuesOf, values}
 use Rattle.layout.specs.Limits.{TEXTS, STATEMENTS, VALUES, room, LONGEST-LOAD}
-use Rattle.layout.specs.Memory.{decode}
+use Rattle.layout.specs.Memory.{decode, opens}
 use Rattle.layout.specs.Damage.{sized, sound}
 use Rattle.layout.proofs.Sound.{sound-of}
 use Rattle.layout.proofs.Legal.{Fair, FairValues}
 use Rattle.layout.proofs.Holds.{decode-fits, decode-legal}
 use Rattle.refusal.specs.declared.Refusal.{Refusal}
-use Rattle.refusal.specs.declared.Refusal.the-variants.{LabelHeld, TextTooLong, NoRoom, NotHeld, DamagedPool}
+use Rattle.refusal.specs.declared.Refusal.the-variants.{LabelHeld, TextTooLong, NoRoom, NotHeld, DamagedPool, TextOpen}
 use Rattle.pool.specs.Empty.{emptyReply, clearReply}
 use Rattle.pool.specs.Remove.{removeReply}
 use Rattle.pool.specs.Replies.{replyLine, replyColumn, refusing, fetchedCount, countsTexts, countsStatements, countsValues}
@@ -42,6 +42,11 @@ use Rattle.pool.specs.Fetch.{fetched, fetchReply}
 use Rattle.pool.specs.FetchString.{stringReply}
 use Rattle.pool.specs.declared.reply.Fetched.the-variants as F
 use Rattle.variables.specs.declared.variable.Found.the-variants as W
+use Rattle.feeding.specs.Parts.{MOST}
+use Rattle.opening.specs.Closing.{closeAnswer}
+use Rattle.intake.specs.Opened.{stateIn}
+use Rattle.intake.specs.Calls.{openReply, feedReply, closeReply}
+use Rattle.keeping.proofs.Ending.{close-near}
 use Rattle.globe_c.specs.Faces.{narrow}
 use Rattle.globe_c.specs.Narrow.{WholeReply, LosesNothing}
 
@@ -62,8 +67,8 @@ lines-few (b ∷ bs) = by (eqb b LF) (eqb b CR && atLF bs) (lines bs) (lines-few
 
 -- a reply whose line and column are few
 record Few (reply : Reply) : Type 0 where
-  line : replyLine reply ≤ LONGEST-LOAD
-  column : replyColumn reply ≤ LONGEST-LOAD
+  line : replyLine reply ≤ MOST + 1
+  column : replyColumn reply ≤ MOST + 1
 
 few-done : Few Done
 few-done = record { line = omega arith; column = omega arith }
@@ -82,14 +87,24 @@ few-admitted bytes (refused q line place) roomy e h =
 
 few-load : (label : ℕ) (bytes m : List ℕ) → Few (loadReply label bytes m)
 unfolding loadReply loadAnswer
-few-load label bytes m = by (sound m) (held label (decode m)) (ltb LONGEST-LOAD (length bytes)) refl
+few-load label bytes m = by (sound m) (opens m) (held label (decode m)) (ltb LONGEST-LOAD (length bytes)) refl
   where
-    by : (x y z : Bool) → ltb LONGEST-LOAD (length bytes) ≡ z
-        → Few (if x then (if y then refusing LabelHeld else (if z then refusing TextTooLong else admitted (readText bytes) (room (with (decode m) (textOf label bytes))))) else refusing DamagedPool)
-    by true true z e = few-refusing LabelHeld
-    by true false true e = few-refusing TextTooLong
-    by true false false e = few-admitted bytes (readText bytes) (room (with (decode m) (textOf label bytes))) refl (ltb-false LONGEST-LOAD (length bytes) e)
-    by false y z e = few-refusing DamagedPool
+    by : (x o y z : Bool) → ltb LONGEST-LOAD (length bytes) ≡ z
+        → Few (if x then (if o then refusing TextOpen else (if y then refusing LabelHeld else (if z then refusing TextTooLong else admitted (readText bytes) (room (with (decode m) (textOf label bytes)))))) else refusing DamagedPool)
+    by true true y z e = few-refusing TextOpen
+    by true false true z e = few-refusing LabelHeld
+    by true false false true e = few-refusing TextTooLong
+    by true false false false e = few-admitted bytes (readText bytes) (room (with (decode m) (textOf label bytes))) refl (ltb-false LONGEST-LOAD (length bytes) e)
+    by false o y z e = few-refusing DamagedPool
+
+few-close : (m : List ℕ) → Few (closeReply m)
+unfolding closeReply
+few-close m = by (sound m) (opens m) refl refl
+  where
+    by : (x o : Bool) → sound m ≡ x → opens m ≡ o → Few (if x then (if o then closeAnswer (decode m) (stateIn m) else refusing NotHeld) else refusing DamagedPool)
+    by true true e i = let n = close-near m e i in record { line = n .line; column = omega (arith, n .column) }
+    by true false e i = few-refusing NotHeld
+    by false o e i = few-refusing DamagedPool
 
 -- ---- counts
 
@@ -199,7 +214,7 @@ totals-few m = by (sound m) refl
 
 -- ---- so each structure shows its answer whole
 
-narrow-itself : (n : ℕ) → n ≤ LONGEST-LOAD → narrow n ≡ n
+narrow-itself : (n : ℕ) → n ≤ MOST + 1 → narrow n ≡ n
 narrow-itself n h = mod-eq-of-lt (omega arith)
 
 whole-reply : (reply : Reply) → Few reply → WholeReply reply
@@ -211,13 +226,16 @@ no-line true reply f = whole-reply reply f
 no-line false reply f = whole-reply (refusing DamagedPool) (few-refusing DamagedPool)
 
 pub loses-nothing : LosesNothing
-unfolding emptyReply clearReply removeReply
+unfolding emptyReply clearReply removeReply openReply feedReply
 loses-nothing =
     record {
       makeEmpty = λ m. no-line (sized m) Done few-done;
       load = λ label bytes m. whole-reply (loadReply label bytes m) (few-load label bytes m);
-      remove = λ label m. removed (sound m) (held label (decode m));
-      clear = λ m. no-line (sound m) Done few-done;
+      openText = λ label m. opened (sound m) (opens m) (held label (decode m));
+      feedOrDrop = λ m. unless (sound m) (opens m) (few-refusing NotHeld) few-done;
+      closeText = λ m. whole-reply (closeReply m) (few-close m);
+      remove = λ label m. removed (sound m) (opens m) (held label (decode m));
+      clear = λ m. unless (sound m) (opens m) few-done (few-refusing TextOpen);
       fetch = λ name room m. record { number = refl; line = refl; column = refl; count = narrow-itself _ (omega (arith, count-few name room m)) };
       fetchString = λ name place room m. record { number = refl; line = refl; column = refl; count = narrow-itself _ (omega (arith, string-few name place room m)) };
       totals = λ m. let t = totals-few m in record {
@@ -230,6 +248,16 @@ loses-nothing =
       };
     }
   where
-    removed : (x y : Bool) → WholeReply (if x then (if y then Done else refusing NotHeld) else refusing DamagedPool)
-    removed x true = no-line x Done few-done
-    removed x false = no-line x (refusing NotHeld) (few-refusing NotHeld)
+    unless : {p q : Reply} (x o : Bool) → Few p → Few q → WholeReply (if x then (if o then q else p) else refusing DamagedPool)
+    unless {p} {q} x true f g = no-line x q g
+    unless {p} {q} x false f g = no-line x p f
+
+    opened : (x o y : Bool) → WholeReply (if x then (if o then refusing TextOpen else (if y then refusing LabelHeld else Done)) else refusing DamagedPool)
+    opened x true y = no-line x (refusing TextOpen) (few-refusing TextOpen)
+    opened x false true = no-line x (refusing LabelHeld) (few-refusing LabelHeld)
+    opened x false false = no-line x Done few-done
+
+    removed : (x o y : Bool) → WholeReply (if x then (if o then refusing TextOpen else (if y then Done else refusing NotHeld)) else refusing DamagedPool)
+    removed x true y = no-line x (refusing TextOpen) (few-refusing TextOpen)
+    removed x false true = no-line x Done few-done
+    removed x false false = no-line x (refusing NotHeld) (few-refusing NotHeld)

@@ -5,6 +5,7 @@ use mathlib.Core.List.{List}
 use Rattle.pool.specs.Empty.{emptyReply, clearReply}
 use Rattle.pool.specs.Load.{loadReply}
 use Rattle.pool.specs.Remove.{removeReply}
+use Rattle.intake.specs.Calls.{openReply, feedReply, closeReply}
 use Rattle.pool.specs.Fetch.{fetchReply}
 use Rattle.pool.specs.FetchString.{stringReply}
 use Rattle.pool.specs.Totals.{totalsReply}
@@ -40,6 +41,9 @@ pub record WholeCounts (counts : Counts) : Type 0 where
 pub record LosesNothing : Type 0 where
   pub makeEmpty : (m : List ℕ) → WholeReply (emptyReply m)
   pub load : (label : ℕ) (bytes m : List ℕ) → WholeReply (loadReply label bytes m)
+  pub openText : (label : ℕ) (m : List ℕ) → WholeReply (openReply label m)
+  pub feedOrDrop : (m : List ℕ) → WholeReply (feedReply m)
+  pub closeText : (m : List ℕ) → WholeReply (closeReply m)
   pub remove : (label : ℕ) (m : List ℕ) → WholeReply (removeReply label m)
   pub clear : (m : List ℕ) → WholeReply (clearReply m)
   pub fetch : (name : List ℕ) (room : ℕ) (m : List ℕ) → WholeFetched (fetchReply name room m)

@@ -20,6 +20,7 @@ ghost use lib.ListN.{length};
 ghost use Rattle.layout.specs.Limits.{WORDS};
 ghost use Rattle.pool.specs.Empty.{emptyReply, clearReply, emptied};
 ghost use Rattle.pool.specs.Load.{loadReply, loadMemory};
+ghost use Rattle.intake.specs.Calls.{openReply, openMemory, feedReply, feedMemory, closeReply, closeMemory, dropMemory};
 ghost use Rattle.pool.specs.Remove.{removeReply, removeMemory};
 ghost use Rattle.pool.specs.Fetch.{fetchReply, fetchBuffer};
 ghost use Rattle.pool.specs.FetchString.{stringReply, stringBuffer};
@@ -49,6 +50,34 @@ pub extern "C" fn globe_load(pool: &mut [u64], label: u32, text: &[u8]) -> Globe
     ensures { λ r. ⌜ Changes (loadReply label (now (text .entry)) (now (pool .entry))) (loadMemory label (now (text .entry)) (now (pool .entry))) r (now (pool .exit)) ⌝ }
 {
     face::reply_face(calls::load(pool, label, text))
+}
+
+#[no_mangle]
+pub extern "C" fn globe_open(pool: &mut [u64], label: u32) -> GlobeReply
+    ensures { λ r. ⌜ Changes (openReply label (now (pool .entry))) (openMemory label (now (pool .entry))) r (now (pool .exit)) ⌝ }
+{
+    face::reply_face(calls::open_text(pool, label))
+}
+
+#[no_mangle]
+pub extern "C" fn globe_feed(pool: &mut [u64], part: &[u8]) -> GlobeReply
+    ensures { λ r. ⌜ Changes (feedReply (now (pool .entry))) (feedMemory (now (part .entry)) (now (pool .entry))) r (now (pool .exit)) ⌝ }
+{
+    face::reply_face(calls::feed_text(pool, part))
+}
+
+#[no_mangle]
+pub extern "C" fn globe_close(pool: &mut [u64]) -> GlobeReply
+    ensures { λ r. ⌜ Changes (closeReply (now (pool .entry))) (closeMemory (now (pool .entry))) r (now (pool .exit)) ⌝ }
+{
+    face::reply_face(calls::close_text(pool))
+}
+
+#[no_mangle]
+pub extern "C" fn globe_drop(pool: &mut [u64]) -> GlobeReply
+    ensures { λ r. ⌜ Changes (feedReply (now (pool .entry))) (dropMemory (now (pool .entry))) r (now (pool .exit)) ⌝ }
+{
+    face::reply_face(calls::drop_text(pool))
 }
 
 #[no_mangle]

@@ -1,10 +1,12 @@
 // A script of calls on a pool, and every answer. After a call that changes the pool a line tells a checksum of the memory.
-// A call is a line: its name and fields, a space between them; a load's text follows its line as counted bytes and LF.
+// A call is a line: its name and fields, a space between them; a load's text or a feed's part follows its line as counted bytes and LF.
 // `stdin` and `stdout` are made by rust/twin, an implementation of its own.
 mod calls;
 mod changes;
 mod memory;
+mod parts;
 mod queries;
+mod replies;
 
 use libc::STDIN_FILENO;
 
@@ -12,12 +14,12 @@ use libc::STDIN_FILENO;
 const START: u64 = 0xA5A5A5A5A5A5A5A5;
 
 // The words of a pool.
-const WORDS: usize = 6676;
+const WORDS: usize = 6707;
 
 fn main() {
     let mut room = script::room();
     let count = io::read_full(STDIN_FILENO, &mut room);
-    let mut words = [START; 6725];
+    let mut words = [START; 6756];
     each(&room[..count], &mut words);
 }
 
