@@ -11,6 +11,7 @@ use Rattle.pool.specs.Remove.{removeReply}
 use Rattle.pool.specs.Fetch.{fetchReply, fetchBuffer}
 use Rattle.pool.specs.FetchString.{stringReply, stringBuffer}
 use Rattle.pool.specs.Totals.{totalsReply}
+use Rattle.intake.specs.Calls.{openReply, feedReply, closeReply}
 use Rattle.globe.specs.Orientation.{orientationReply}
 use Rattle.globe.specs.Radii.{radiiReply}
 use Rattle.promises.specs.Calls as C
@@ -21,6 +22,10 @@ queries : (c : Call) (m : List ℕ) → query c ≡ true → leaves c m ≡ m
 unfolding leaves
 queries C.makeEmpty m e = absurd (true≢false (sym e))
 queries (C.load label bytes) m e = absurd (true≢false (sym e))
+queries (C.openLoad label) m e = absurd (true≢false (sym e))
+queries (C.feedPart part) m e = absurd (true≢false (sym e))
+queries C.closeLoad m e = absurd (true≢false (sym e))
+queries C.dropLoad m e = absurd (true≢false (sym e))
 queries (C.remove label) m e = absurd (true≢false (sym e))
 queries C.clear m e = absurd (true≢false (sym e))
 queries (C.fetch name buffer) m e = refl
@@ -34,6 +39,10 @@ unfolding asked leaves
 contracts = record {
   makeEmpty = λ m. record { told = emptyReply m; is = refl; contract = record { reply = refl; memory = refl } };
   load = λ label bytes m. record { told = loadReply label bytes m; is = refl; contract = record { reply = refl; memory = refl } };
+  openLoad = λ label m. record { told = openReply label m; is = refl; contract = record { reply = refl; memory = refl } };
+  feedPart = λ part m. record { told = feedReply m; is = refl; contract = record { reply = refl; memory = refl } };
+  closeLoad = λ m. record { told = closeReply m; is = refl; contract = record { reply = refl; memory = refl } };
+  dropLoad = λ m. record { told = feedReply m; is = refl; contract = record { reply = refl; memory = refl } };
   remove = λ label m. record { told = removeReply label m; is = refl; contract = record { reply = refl; memory = refl } };
   clear = λ m. record { told = clearReply m; is = refl; contract = record { reply = refl; memory = refl } };
   fetch = λ name m buffer. record {
@@ -56,6 +65,10 @@ pub no-second-answer : NoSecondAnswer
 no-second-answer = record {
   makeEmpty = λ before r r′ after after′ p q. (cc, cc);
   load = λ label bytes before r r′ after after′ p q. (cc, cc);
+  openLoad = λ label before r r′ after after′ p q. (cc, cc);
+  feedPart = λ part before r r′ after after′ p q. (cc, cc);
+  closeLoad = λ before r r′ after after′ p q. (cc, cc);
+  dropLoad = λ before r r′ after after′ p q. (cc, cc);
   remove = λ label before r r′ after after′ p q. (cc, cc);
   clear = λ before r r′ after after′ p q. (cc, cc);
   fetch = λ name memory before r r′ after after′ p q. (cc, cc);

@@ -114,8 +114,8 @@ demand-3 =
     record {
       replay = replay;
       held = of-held-texts;
-      sentence = λ m f history name buffer left n e.
-          spoken name (texts library history m) n buffer left (sym (of-held-texts .variables m f history name buffer) ∙ e);
-      strings = λ m f history name place buffer left n e.
-          spoken-at name (texts library history m) n place buffer left (sym (of-held-texts .strings m f history name place buffer) ∙ e);
+      sentence = λ m f history name buffer left n t e.
+          spoken name (texts library history m) n buffer left (sym (of-held-texts .variables m f history name buffer t) ∙ e);
+      strings = λ m f history name place buffer left n t e.
+          spoken-at name (texts library history m) n place buffer left (sym (of-held-texts .strings m f history name place buffer t) ∙ e);
     }

@@ -1,184 +1,100 @@
--- After any sequence of calls the pool holds the texts that are still kept, and so does an empty pool into which they are
--- loaded, each load being accepted; and every answer is a function of the texts held. Assumes nothing.
+-- After any sequence of calls the pool is in the state of what is still kept, and so is an empty pool into which the texts are brought the way they
+-- came, each being accepted; and every answer is a function of the state. Assumes nothing.
 use Prim.Native.Nat.{ℕ}
 use mathlib.Core.Path.{_≡_, refl, sym, ap, _∙_, subst}
-use mathlib.Core.Bool.{Bool, true, false}
-use mathlib.Core.List.{List, [], _∷_, _++_, map, append-assoc, append-nil}
+use mathlib.Core.Bool.{true}
+use mathlib.Core.List.{List, [], _∷_, map}
 use borrow.Author.Tests.{eq-eqb}
 use lib.ListN.{length}
 use Rattle.plain.specs.Choice.{if_then_else_}
-use Rattle.refusal.specs.declared.Refusal.the-variants.{NotHeld}
-use Rattle.layout.specs.State.{Pool}
+use Rattle.plain.proofs.Tests.{first-then}
+use Rattle.words.specs.Halves.{all}
 use Rattle.layout.specs.Limits.{WORDS}
-use Rattle.layout.specs.Memory.{decode}
 use Rattle.layout.specs.Damage.{sized}
-use Rattle.pool.specs.Replies.{done, refusing}
 use Rattle.pool.specs.Empty.{emptyReply}
-use Rattle.pool.specs.Load.{held, textOf, with, loadAnswer}
-use Rattle.pool.specs.Remove.{without}
-use Rattle.pool.specs.declared.reply.Reply.the-variants.{Done}
 use Rattle.promises.specs.Calls as C
-use Rattle.promises.specs.Calls.{Call, asked, leaves, library, accepted}
-use Rattle.promises.specs.Histories.{Loaded, loading, removing, kept, after, still, Fresh, Replay, Onward, AllAccepted, Replayed, text, OfHeldTexts}
-use Rattle.promises.proofs.Refusals.{accepted-done}
-use Rattle.promises.proofs.Accepted.{taken-done, done-taken}
-use Rattle.promises.proofs.Together.{Together, together-none, map-last, together-last, map-removing, together-removing, together-taken}
-use Rattle.promises.proofs.Said.{says, asked-says}
-use Rattle.promises.proofs.Steps.{step, Is, emptied-is, leaves-is}
+use Rattle.promises.specs.Calls.{Call, asked, leaves, query, library, number, accepted, typed}
+use Rattle.promises.specs.Histories as H
+use Rattle.promises.specs.Histories.{Loaded, none, Kept, nothing, kept, refusedWith, after, still, Fresh, Typed, Replay, Onward, Replayed, text, texts, OfHeldTexts}
+use Rattle.promises.proofs.Together.{together-none}
+use Rattle.promises.proofs.Said.{closed, says, query-says}
+use Rattle.promises.proofs.Held.{Is, emptied-is}
+use Rattle.promises.proofs.Sequences.{asked-is, is-step, is-after, all-accepted}
+use Rattle.promises.proofs.Keeping.{opennessFor, stateFor, Keepable, goes}
+use Rattle.promises.proofs.Replaying.{replayed-said, replayed-steps, typed-replayed}
 
--- ---- one call, on the texts
+-- the memory is undamaged and in the state of what is kept, which can be held together
+record Holds (m : List ℕ) (k : Kept) : Type 0 where
+  is : Is m (stateFor k)
+  good : Keepable k
 
-either : {X : Type 0} (b : Bool) (x : X) → (if b then x else x) ≡ x
-either true x = refl
-either false x = refl
-
--- the texts held after a call, of those that were held before
-abbrev keeps : Call → List Loaded → List Loaded
-keeps c ks = if accepted (says c (map text ks)) then kept c ks else ks
-
-step-keeps : (c : Call) (ks : List Loaded) → step c (map text ks) ≡ map text (keeps c ks)
-unfolding step says
-step-keeps C.makeEmpty ks = refl
-step-keeps (C.load label bytes) ks = rw (accepted-done (loadAnswer label bytes (map text ks))) (by (done (loadAnswer label bytes (map text ks))))
-  where
-    by : (b : Bool) → (if b then with (map text ks) (textOf label bytes) else map text ks) ≡ map text (if b then ks ++ (record { label = label; bytes = bytes } ∷ []) else ks)
-    by true = sym (map-last ks (record { label = label; bytes = bytes }))
-    by false = refl
-step-keeps (C.remove label) ks = by (held label (map text ks))
-  where
-    by : (b : Bool) → (if b then without label (map text ks) else map text ks)
-        ≡ map text (if accepted (C.replied (if b then Done else refusing NotHeld)) then removing label ks else ks)
-    by true = sym (map-removing label ks)
-    by false = refl
-step-keeps C.clear ks = refl
-step-keeps (C.fetch name buffer) ks = ap (map text) (sym (either (accepted (says (C.fetch name buffer) (map text ks))) ks))
-step-keeps (C.fetchString name place buffer) ks =
-    ap (map text) (sym (either (accepted (says (C.fetchString name place buffer) (map text ks))) ks))
-step-keeps C.totals ks = refl
-step-keeps (C.orientation source code epoch) ks = ap (map text) (sym (either (accepted (says (C.orientation source code epoch) (map text ks))) ks))
-step-keeps (C.radii source code) ks = ap (map text) (sym (either (accepted (says (C.radii source code) (map text ks))) ks))
-
-together-keeps : (c : Call) (ks : List Loaded) → Together ks → Together (keeps c ks)
-unfolding says
-together-keeps C.makeEmpty ks g = together-none
-together-keeps (C.load label bytes) ks g =
-    rw (accepted-done (loadAnswer label bytes (map text ks))) (by (done (loadAnswer label bytes (map text ks))) refl)
-  where
-    by : (b : Bool) → done (loadAnswer label bytes (map text ks)) ≡ b → Together (if b then ks ++ (record { label = label; bytes = bytes } ∷ []) else ks)
-    by true h = together-last ks (record { label = label; bytes = bytes }) g (taken-done label bytes (map text ks) h)
-    by false h = g
-together-keeps (C.remove label) ks g = by (held label (map text ks))
-  where
-    by : (b : Bool) → Together (if accepted (C.replied (if b then Done else refusing NotHeld)) then removing label ks else ks)
-    by true = together-removing label ks g
-    by false = g
-together-keeps C.clear ks g = together-none
-together-keeps (C.fetch name buffer) ks g = rw (either (accepted (says (C.fetch name buffer) (map text ks))) ks) g
-together-keeps (C.fetchString name place buffer) ks g = rw (either (accepted (says (C.fetchString name place buffer) (map text ks))) ks) g
-together-keeps C.totals ks g = g
-together-keeps (C.orientation source code epoch) ks g = rw (either (accepted (says (C.orientation source code epoch) (map text ks))) ks) g
-together-keeps (C.radii source code) ks g = rw (either (accepted (says (C.radii source code) (map text ks))) ks) g
-
--- ---- on the memory
-
--- the memory is undamaged and holds these texts, which can be held together
-record Holds (m : List ℕ) (ks : List Loaded) : Type 0 where
-  is : Is m (map text ks)
-  together : Together ks
-
-fresh-holds : (m : List ℕ) → Fresh library m → Holds m []
+fresh-is : (m : List ℕ) → Fresh library m → Is m (closed [])
 unfolding leaves emptyReply
-fresh-holds m f =
+fresh-is m f =
     let e : leaves C.makeEmpty (f .earlier) ≡ m = sym (f .emptied) in
     let z : sized (f .earlier) ≡ true = eq-eqb (length (f .earlier)) WORDS (f .size) in
-    record { is = subst (λ (x : List ℕ). Is x []) e (rw z (emptied-is (f .earlier) (f .size))); together = together-none }
+    subst (λ (x : List ℕ). Is x (closed [])) e (rw z (emptied-is (f .earlier) (f .size)))
 
-holds-leaves : (c : Call) (m : List ℕ) (ks : List Loaded) → Holds m ks → Holds (leaves c m) (if accepted (asked c m) then kept c ks else ks)
-holds-leaves c m ks h =
-    let a : asked c m ≡ says c (map text ks) = asked-says c m (h .is .undamaged) ∙ ap (says c) (h .is .state) in
-    let i = leaves-is m (h .is .undamaged) c in
-    let s : decode (leaves c m) ≡ map text (keeps c ks) = i .state ∙ ap (step c) (h .is .state) ∙ step-keeps c ks in
-    rw a (record { is = record { undamaged = i .undamaged; state = s }; together = together-keeps c ks (h .together) })
+fresh-holds : (m : List ℕ) → Fresh library m → Holds m nothing
+fresh-holds m f = record { is = fresh-is m f; good = record { together = together-none; opened = tt } }
 
-holds-after : (cs : List Call) (m : List ℕ) (ks : List Loaded) → Holds m ks → Holds (after library cs m) (still library cs m ks)
-unfolding after still
-holds-after [] m ks h = h
-holds-after (c ∷ cs) m ks h = holds-after cs (leaves c m) (if accepted (asked c m) then kept c ks else ks) (holds-leaves c m ks h)
+holds-leaves : (c : Call) (m : List ℕ) (k : Kept) → typed c ≡ true → Holds m k
+    → Holds (leaves c m) (if accepted (asked c m) then kept c k else refusedWith c (number (asked c m)) k)
+holds-leaves c m k t h =
+    let a : asked c m ≡ says c (stateFor k) = asked-is c m (stateFor k) (h .is) in
+    let i = is-step c m (stateFor k) t (h .is) in
+    let x = goes c (k .texts) (k .opened) t (h .good .together) (h .good .opened) in
+    rw a (record { is = record { undamaged = i .undamaged; state = i .state ∙ x .state }; good = x .good })
 
--- ---- loading texts that can be held together
+holds-after : (cs : List Call) (m : List ℕ) (k : Kept) → Typed cs → Holds m k → Holds (after library cs m) (still library cs m k)
+unfolding after still all
+holds-after [] m k t h = h
+holds-after (c ∷ cs) m k t h =
+    let p = first-then (typed c) (all typed cs) t in
+    holds-after cs (leaves c m) (if accepted (asked c m) then kept c k else refusedWith c (number (asked c m)) k) (p .1) (holds-leaves c m k (p .0) h)
 
-load-accepted : (m : List ℕ) (before : List Loaded) (k : Loaded) (more : List Loaded) → Holds m before → Together (before ++ (k ∷ more))
-    → accepted (asked (loading k) m) ≡ true
-unfolding says
-load-accepted m before k more h g =
-    let a : asked (loading k) m ≡ says (loading k) (map text before) = asked-says (loading k) m (h .is .undamaged) ∙ ap (says (loading k)) (h .is .state) in
-    rw (a, done-taken (k .label) (k .bytes) (map text before) (together-taken before k more g))
+-- what a history keeps, and what its replay holds
+module _ (m : List ℕ) (f : Fresh library m) (history : List Call) (t : Typed history) where
+  abbrev ks : List Loaded
+  ks = still library history m nothing .texts
 
-next-holds : (m : List ℕ) (before : List Loaded) (k : Loaded) (more : List Loaded) → Holds m before → Together (before ++ (k ∷ more))
-    → Holds (leaves (loading k) m) (before ++ (k ∷ []))
-next-holds m before k more h g =
-    subst (λ (b : Bool). Holds (leaves (loading k) m) (if b then before ++ (k ∷ []) else before)) (load-accepted m before k more h g) (holds-leaves (loading k) m before h)
+  ends : Holds (after library history m) (still library history m nothing)
+  ends = holds-after history m nothing t (fresh-holds m f)
 
-loads-hold : (ks : List Loaded) (m : List ℕ) (before : List Loaded) → Holds m before → Together (before ++ ks) → Holds (after library (map loading ks) m) (before ++ ks)
-unfolding after
-loads-hold [] m before h g = subst (Holds m) (sym (append-nil before)) h
-loads-hold (k ∷ ks) m before h g =
-    let e : (before ++ (k ∷ [])) ++ ks ≡ before ++ (k ∷ ks) = append-assoc before (k ∷ []) ks in
-    subst (Holds (after library (map loading ks) (leaves (loading k) m))) e
-    (loads-hold ks (leaves (loading k) m) (before ++ (k ∷ [])) (next-holds m before k ks h g) (subst Together (sym e) g))
+  replay-is : (m′ : List ℕ) → Fresh library m′ → Is (after library (H.replayed ks) m′) (closed (map text ks))
+  replay-is m′ f′ =
+      let g = ends .good .together in
+      subst (Is (after library (H.replayed ks) m′)) (replayed-steps ks g)
+      (is-after (H.replayed ks) m′ (closed []) (typed-replayed ks (g .readable)) (fresh-is m′ f′))
 
-loads-accepted : (ks : List Loaded) (m : List ℕ) (before : List Loaded) → Holds m before → Together (before ++ ks) → AllAccepted library (map loading ks) m
-unfolding AllAccepted
-loads-accepted [] m before h g = tt
-loads-accepted (k ∷ ks) m before h g = (
-  load-accepted m before k ks h g,
-  loads-accepted ks (leaves (loading k) m) (before ++ (k ∷ [])) (next-holds m before k ks h g)
-      (subst Together (sym (append-assoc before (k ∷ []) ks)) g),
-)
-
--- ---- the claims
+  none-is : still library history m nothing .opened ≡ none → Is (after library history m) (closed (map text ks))
+  none-is o = subst (Is (after library history m)) (ap (λ x. record { texts = map text ks; opened = opennessFor (map text ks) x }) o) (ends .is)
 
 pub replayed : Replayed library
-replayed m m′ f f′ history =
-    loads-accepted (still library history m []) m′ [] (fresh-holds m′ f′) (holds-after history m [] (fresh-holds m f) .together)
-
--- two memories that hold the same texts hold the same after the same calls
-steps : List Call → Pool → Pool
-steps [] s = s
-steps (c ∷ cs) s = steps cs (step c s)
-
-is-after : (cs : List Call) (m : List ℕ) (s : Pool) → Is m s → Is (after library cs m) (steps cs s)
-unfolding after steps
-is-after [] m s i = i
-is-after (c ∷ cs) m s i =
-    let j = leaves-is m (i .undamaged) c in
-    is-after cs (leaves c m) (step c s) (record { undamaged = j .undamaged; state = j .state ∙ ap (step c) (i .state) })
+replayed m m′ f f′ history t =
+    let g = ends m f history t .good .together in
+    all-accepted (H.replayed (ks m f history t)) m′ (closed []) (typed-replayed (ks m f history t) (g .readable)) (fresh-is m′ f′) (replayed-said (ks m f history t) g)
 
 pub onward : Onward library
-onward m m′ f f′ history further c =
-    let x = after library history m in
-    let y = after library (map loading (still library history m [])) m′ in
-    let a = holds-after history m [] (fresh-holds m f) in
-    let b = loads-hold (still library history m []) m′ [] (fresh-holds m′ f′) (a .together) in
-    let i = is-after further x (map text (still library history m [])) (a .is) in
-    let j = is-after further y (map text (still library history m [])) (b .is) in
-    asked-says c (after library further x) (i .undamaged) ∙ ap (says c) (i .state ∙ sym (j .state))
-    ∙ sym (asked-says c (after library further y) (j .undamaged))
+onward m m′ f f′ history further c t u o =
+    let s = closed (map text (ks m f history t)) in
+    asked-is c _ _ (is-after further _ s u (none-is m f history t o))
+    ∙ sym (asked-is c _ _ (is-after further _ s u (replay-is m f history t m′ f′)))
 
 pub replay : Replay library
-unfolding after
-replay m m′ f f′ history c = onward m m′ f f′ history [] c
+unfolding after all
+replay m m′ f f′ history c t o = onward m m′ f f′ history [] c t refl o
 
 pub of-held-texts : OfHeldTexts library
 unfolding says
 of-held-texts =
     record {
-      variables = λ m f history name buffer. answered m f history (C.fetch name buffer);
-      strings = λ m f history name place buffer. answered m f history (C.fetchString name place buffer);
-      sums = λ m f history. answered m f history C.totals;
+      variables = λ m f history name buffer t. answered m f history (C.fetch name buffer) t refl;
+      strings = λ m f history name place buffer t. answered m f history (C.fetchString name place buffer) t refl;
+      sums = λ m f history t. answered m f history C.totals t refl;
     }
   where
-    answered : (m : List ℕ) → Fresh library m → (history : List Call) (c : Call) → asked c (after library history m) ≡ says c (map text (still library history m []))
-    answered m f history c =
-        let a = holds-after history m [] (fresh-holds m f) in
-        asked-says c (after library history m) (a .is .undamaged) ∙ ap (says c) (a .is .state)
+    answered : (m : List ℕ) → Fresh library m → (history : List Call) (c : Call) → Typed history → query c ≡ true
+        → asked c (after library history m) ≡ says c (closed (texts library history m))
+    answered m f history c t q =
+        asked-is c (after library history m) _ (ends m f history t .is) ∙ query-says c (stateFor (still library history m nothing)) q

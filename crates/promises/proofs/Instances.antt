@@ -1,7 +1,8 @@
 -- Small instances at which the definitions compute: an undamaged empty memory, and what the built-in table gives. Assumes nothing.
 use Prim.Native.Nat.{ℕ, _<_}
-use mathlib.Core.Path.{_≡_, refl, _∙_}
-use mathlib.Core.Bool.{true, false}
+use native.Mathlib.Omega.{arith}
+use mathlib.Core.Path.{_≡_, refl, ap}
+use mathlib.Core.Bool.{Bool, true, false}
 use mathlib.Core.List.{List, [], _∷_}
 use lib.Dec.{eqb, lit<, lit≤}
 use lib.Ieee.{Float}
@@ -16,16 +17,19 @@ use Rattle.rotation.specs.declared.matrix.Orientation.{Orientation}
 use Rattle.rotation.specs.declared.table.Axes.{Axes}
 use Rattle.rotation.specs.declared.table.Size.the-variants.{Known}
 use Rattle.words.specs.Halves.{sum, distinct, all}
-use Rattle.layout.specs.Limits.{WORDS}
-use Rattle.layout.specs.Memory.{decode, cutTexts, cutStatements}
+use Rattle.layout.specs.Limits.{WORDS, LONGEST-LOAD}
+use Rattle.layout.specs.Memory.{decode, opens, cutTexts, cutStatements}
 use Rattle.layout.specs.Damage.{sound, allNamed}
 use Rattle.pool.specs.Load.{textOf}
+use Rattle.feeding.specs.Parts.{Open}
+use Rattle.opening.specs.Storing.{Progress}
 use Rattle.promises.specs.Calls as C
 use Rattle.promises.specs.Calls.{leaves}
 use Rattle.promises.specs.Marked.{bits}
 use Rattle.promises.specs.Demands.{Admissible, HasRow}
 use Rattle.promises.proofs.Computing.{computing, loading, evaluating}
-use Rattle.promises.proofs.Steps.{step, Is, leaves-is}
+use Rattle.promises.proofs.Said.{State, openness, shut, closed}
+use Rattle.promises.proofs.Held.{Is, loaded-is}
 
 -- ---- a memory of noughts is an empty pool, which can take the empty text
 
@@ -40,10 +44,15 @@ pub noughts-empty : decode noughts ≡ []
 unfolding noughts decode cutTexts cutStatements
 noughts-empty = refl
 
-pub empty-text : Admissible 1 [] noughts
+pub noughts-shut : opens noughts ≡ false
+unfolding noughts
+noughts-shut = refl
+
+pub empty-text : Admissible LONGEST-LOAD 1 [] noughts
 unfolding loading
 empty-text = record {
   undamaged = noughts-sound;
+  noneOpen = noughts-shut;
   free = rw noughts-empty;
   short = lit≤ tt;
   events = [];
@@ -56,24 +65,30 @@ empty-text = record {
 unfoldable pub holding : List ℕ
 holding = leaves (C.load 1 []) noughts
 
-holding-is : Is holding (textOf 1 [] ∷ [])
-unfolding holding step loading
-holding-is =
-    let i = leaves-is noughts noughts-sound (C.load 1 []) in
-    record { undamaged = i .undamaged; state = i .state ∙ rw noughts-empty }
+holding-is : Is holding (closed (textOf 1 [] ∷ []))
+unfolding holding loading
+holding-is = rw noughts-empty at (loaded-is noughts noughts-sound 1 [] noughts-shut (rw noughts-empty))
+
+holding-texts : decode holding ≡ textOf 1 [] ∷ []
+holding-texts = ap (λ (s : State). s .texts) (holding-is .state)
+
+shut-not-open : (label : ℕ) (o : Open Progress) (b : Bool) → openness b label o ≡ shut → b ≡ false
+shut-not-open label o true e = let z : _≡_ {A = ℕ} 0 1 = cc in absurd (omega arith)
+shut-not-open label o false e = refl
 
 pub holding-one : 0 < length (decode holding)
-holding-one = rw (holding-is .state) (lit< tt)
+holding-one = rw holding-texts (lit< tt)
 
-pub second-text : Admissible 2 [] holding
+pub second-text : Admissible LONGEST-LOAD 2 [] holding
 unfolding loading
 second-text = record {
   undamaged = holding-is .undamaged;
-  free = rw (holding-is .state);
+  noneOpen = shut-not-open _ _ (opens holding) (ap (λ (s : State). s .opened) (holding-is .state));
+  free = rw holding-texts;
   short = lit≤ tt;
   events = [];
   admitted = refl;
-  roomy = rw (holding-is .state);
+  roomy = rw holding-texts;
 }
 
 -- ---- Earth at 0 and a day later, the Sun at 0

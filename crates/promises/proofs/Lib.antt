@@ -1,6 +1,8 @@
 -- What is promised, proved.
+pub mod Told
 pub mod Contracts
 pub mod Refusals
+pub mod Lines
 pub mod Reports
 pub mod Renumbered
 pub mod Order
@@ -18,12 +20,19 @@ pub mod Overflow
 pub mod Before
 pub mod Above0
 pub mod Proper
+pub mod Held
 pub mod Steps
+pub mod Sequences
+pub mod Parts
+pub mod Keeping
+pub mod Replaying
 pub mod Histories
 pub mod Sentence
 pub mod Demand3
 pub mod Computing
 pub mod Marked
 pub mod Instances
+pub mod Bringing
 pub mod Useless
 pub mod Wrong
+pub mod WrongInParts

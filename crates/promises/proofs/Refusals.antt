@@ -1,7 +1,8 @@
--- A refusal changes nothing: every call writes only under its success. Assumes nothing.
+-- A refusal changes nothing: every call writes only under its success, but that a closing which gets as far as the open text ends it, and that one
+-- never answers 8 or 15. Assumes nothing.
 use Prim.Native.Nat.{ℕ}
 use mathlib.Core.Path.{_≡_, refl, ap}
-use mathlib.Core.Bool.{Bool, true, false, true≢false}
+use mathlib.Core.Bool.{Bool, true, false, _&&_, true≢false}
 use mathlib.Core.List.{List, []}
 use lib.Dec.{eqb}
 use lib.Ieee.{Float}
@@ -10,9 +11,9 @@ use Rattle.plain.specs.Choice.{if_then_else_}
 use Rattle.refusal.specs.Numbers.{SUCCESS, numberOf}
 use Rattle.refusal.specs.declared.Refusal.{Refusal}
 use Rattle.refusal.specs.declared.Refusal.the-variants as Q
-use Rattle.layout.specs.Memory.{decode, put}
+use Rattle.layout.specs.Memory.{decode, put, opens, openLabel}
 use Rattle.layout.specs.Damage.{sound}
-use Rattle.pool.specs.Replies.{replyNumber, fetchedNumber, done}
+use Rattle.pool.specs.Replies.{replyNumber, fetchedNumber, done, refusing}
 use Rattle.pool.specs.Empty.{emptyReply, clearReply}
 use Rattle.pool.specs.Load.{textOf, with, loadReply, loadMemory}
 use Rattle.pool.specs.Remove.{without, removeReply, removeMemory}
@@ -26,8 +27,12 @@ use Rattle.pool.specs.declared.reply.Reply.the-variants as R
 use Rattle.pool.specs.declared.reply.Fetched.the-variants as F
 use Rattle.variables.specs.declared.variable.Found.{Found}
 use Rattle.variables.specs.declared.variable.Found.the-variants as W
-use Rattle.promises.specs.Calls.{makeEmpty, load, remove, clear, fetch, fetchString, totals, orientation, radii, asked, leaves, library}
+use Rattle.opening.specs.Closing.{closeAnswer, closedPool}
+use Rattle.intake.specs.Opened.{stateIn, stowed, beginning, shut}
+use Rattle.intake.specs.Calls.{openReply, openMemory, feedReply, feedMemory, dropMemory, closeReply, closeMemory}
+use Rattle.promises.specs.Calls.{makeEmpty, load, openLoad, feedPart, closeLoad, dropLoad, remove, clear, endsOpen, fetch, fetchString, totals, orientation, radii, asked, leaves, library}
 use Rattle.promises.specs.Demands.{RefusalChangesNothing}
+use Rattle.promises.proofs.Told.{Ends, told}
 
 -- no refusal has the number of success
 pub refused-number : (q : Refusal) → eqb (numberOf q) SUCCESS ≡ false
@@ -53,6 +58,7 @@ refused-number Q.OpenList = refl
 refused-number Q.RestOfLine = refl
 refused-number Q.BadDegree = refl
 refused-number Q.BadRadius = refl
+refused-number Q.TextOpen = refl
 refused-number Q.BadRing = refl
 refused-number Q.BadPosition = refl
 
@@ -75,10 +81,29 @@ untouched true W.Mixed xs buffer e = refl
 untouched true W.Absent xs buffer e = refl
 untouched false r xs buffer e = refl
 
+-- ---- a closing
+
+-- refused, it writes the one word, where the pool is undamaged and a text is open
+closing-writes : (b o : Bool) (r : Reply) (after before : List ℕ) → Ends r
+    → let c = if b then (if o then r else refusing Q.NotHeld) else refusing Q.DamagedPool in
+    eqb (replyNumber c) SUCCESS ≡ false
+    → (if b && o then (if done c then after else shut before) else before) ≡ (if endsOpen closeLoad (replyNumber c) then shut before else before)
+closing-writes true true (R.Refused q line column) after before w e = rw (w refl)
+closing-writes true true R.Done after before w e = absurd (true≢false e)
+closing-writes true false r after before w e = refl
+closing-writes false o r after before w e = refl
+
 pub refusal-changes-nothing : RefusalChangesNothing library
-unfolding asked leaves loadMemory removeMemory fetchReply fetchBuffer stringReply stringBuffer
+unfolding asked leaves loadMemory openMemory feedMemory closeReply closeMemory dropMemory removeMemory fetchReply fetchBuffer stringReply stringBuffer
 refusal-changes-nothing makeEmpty m e = (unwritten (emptyReply m) (put [] m) m e, refl)
 refusal-changes-nothing (load label bytes) m e = (unwritten (loadReply label bytes m) (put (with (decode m) (textOf label bytes)) m) m e, refl)
+refusal-changes-nothing (openLoad label) m e = (unwritten (openReply label m) (stowed label (beginning m)) m e, refl)
+refusal-changes-nothing (feedPart part) m e = (unwritten (feedReply m) _ m e, refl)
+refusal-changes-nothing closeLoad m e =
+    let s = decode m in
+    let o = stateIn m in
+    (closing-writes (sound m) (opens m) (closeAnswer s o) (put (closedPool s (openLabel m) o) m) m (told s o .ends) e, refl)
+refusal-changes-nothing dropLoad m e = (unwritten (feedReply m) (shut m) m e, refl)
 refusal-changes-nothing (remove label) m e = (unwritten (removeReply label m) (put (without label (decode m)) m) m e, refl)
 refusal-changes-nothing clear m e = (unwritten (clearReply m) (put [] m) m e, refl)
 refusal-changes-nothing (fetch name buffer) m e = (

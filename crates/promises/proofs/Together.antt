@@ -13,24 +13,32 @@ use Rattle.layout.specs.Limits.{room, LONGEST-LOAD}
 use Rattle.pool.specs.Replies.{done}
 use Rattle.pool.specs.Load.{textOf, with, admitted}
 use Rattle.pool.specs.Remove.{without}
-use Rattle.promises.specs.Histories.{Loaded, removing, text}
+use Rattle.feeding.specs.Parts.{MOST}
+use Rattle.promises.specs.Histories.{Way, whole, inParts, Loaded, loading, removing, Typed, bytesOf, text}
 use Rattle.promises.proofs.Accepted.{Taken}
 use Rattle.promises.proofs.Room.{room-front, room-without}
 use Rattle.promises.proofs.Labels.{Apart, apart-with, apart-without, held-before}
 
--- the rules admit the bytes, and they are not too many
-pub record Readable (bytes : List ℕ) : Type 0 where
-  pub short : length bytes ≤ LONGEST-LOAD
-  pub reads : done (admitted (readText bytes) true) ≡ true
+-- "with 4,194,304 bytes as the limit here": by the way that a text came
+abbrev pub longestOf : Way → ℕ
+longestOf (whole bytes) = LONGEST-LOAD
+longestOf (inParts parts) = MOST
 
-abbrev pub IsReadable : Loaded → Type 0
-IsReadable k = Readable (k .bytes)
+-- the rules admit its bytes, they are not too many, and its parts are bytes
+pub record Readable (k : Loaded) : Type 0 where
+  pub short : length (bytesOf (k .way)) ≤ longestOf (k .way)
+  pub reads : done (admitted (readText (bytesOf (k .way))) true) ≡ true
+  pub typed : Typed (loading k)
+
+-- it is accepted where these texts are held
+abbrev pub TakenBy : Pool → Loaded → Type 0
+TakenBy s k = Taken (longestOf (k .way)) (k .label) (bytesOf (k .way)) s
 
 -- they can be held together
 pub record Together (ks : List Loaded) : Type 0 where
   pub labels : Apart (map text ks)
   pub fits : room (map text ks) ≡ true
-  pub readable : Each IsReadable ks
+  pub readable : Each Readable ks
 
 map-append : {A B : Type 0} (f : A → B) (xs ys : List A) → map f (xs ++ ys) ≡ map f xs ++ map f ys
 map-append f [] ys = refl
@@ -45,12 +53,12 @@ together-none = record { labels = tt; fits = refl; readable = tt }
 pub map-last : (ks : List Loaded) (k : Loaded) → map text (ks ++ (k ∷ [])) ≡ with (map text ks) (text k)
 map-last ks k = map-append text ks (k ∷ [])
 
-pub together-last : (ks : List Loaded) (k : Loaded) → Together ks → Taken (k .label) (k .bytes) (map text ks) → Together (ks ++ (k ∷ []))
+pub together-last : (ks : List Loaded) (k : Loaded) → Together ks → TakenBy (map text ks) k → Typed (loading k) → Together (ks ++ (k ∷ []))
 unfolding textOf
-together-last ks k g t = record {
+together-last ks k g t b = record {
   labels = subst Apart (sym (map-last ks k)) (apart-with (map text ks) (text k) (g .labels) (t .free));
   fits = ap room (map-last ks k) ∙ t .fits;
-  readable = each-append IsReadable ks (k ∷ []) (g .readable) (record { short = t .short; reads = t .reads }, tt);
+  readable = each-append Readable ks (k ∷ []) (g .readable) (record { short = t .short; reads = t .reads; typed = b }, tt);
 }
 
 -- ---- one left out
@@ -78,20 +86,23 @@ pub together-removing : (label : ℕ) (ks : List Loaded) → Together ks → Tog
 together-removing label ks g = record {
   labels = subst Apart (sym (map-removing label ks)) (apart-without label (map text ks) (g .labels));
   fits = ap room (map-removing label ks) ∙ room-without label (map text ks) (g .fits);
-  readable = each-removing IsReadable label ks (g .readable);
+  readable = each-removing Readable label ks (g .readable);
 }
 
 -- ---- loaded one after the other, each is accepted after those before it
 
-pub together-taken : (before : List Loaded) (k : Loaded) (more : List Loaded) → Together (before ++ (k ∷ more)) → Taken (k .label) (k .bytes) (map text before)
+pub together-taken : (before : List Loaded) (k : Loaded) (more : List Loaded) → Together (before ++ (k ∷ more)) → TakenBy (map text before) k
 unfolding textOf
 together-taken before k more g =
     let e : map text (before ++ (k ∷ more)) ≡ map text before ++ (text k ∷ map text more) = map-append text before (k ∷ more) in
     let f : map text before ++ (text k ∷ map text more) ≡ with (map text before) (text k) ++ map text more = sym (append-assoc (map text before) (text k ∷ []) (map text more)) in
-    let r = each-right IsReadable before (k ∷ more) (g .readable) .0 in
+    let r = each-right Readable before (k ∷ more) (g .readable) .0 in
     record {
       free = held-before (map text before) (text k) (map text more) (subst Apart e (g .labels));
       short = r .short;
       fits = room-front (with (map text before) (text k)) (map text more) (sym (ap room (e ∙ f)) ∙ g .fits);
       reads = r .reads;
     }
+
+pub together-front : (before more : List Loaded) → Together (before ++ more) → room (map text before) ≡ true
+together-front before more g = room-front (map text before) (map text more) (sym (ap room (map-append text before more)) ∙ g .fits)

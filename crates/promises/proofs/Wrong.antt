@@ -37,9 +37,9 @@ use Rattle.globe.specs.Orientation.{Orients, orientationReply}
 use Rattle.globe.specs.Radii.{Measures, radiiReply}
 use Rattle.globe.specs.declared.source.Source.the-variants as S
 use Rattle.promises.proofs.Computing.{loading, evaluating}
-use Rattle.promises.proofs.Instances.{noughts, noughts-sound, noughts-empty}
+use Rattle.promises.proofs.Instances.{noughts, noughts-sound, noughts-shut, noughts-empty}
 
-never : _≡_ {A = ℕ} 0 1 → ⊥
+pub never : _≡_ {A = ℕ} 0 1 → ⊥
 never z = omega arith
 
 -- the first total of a memory
@@ -48,7 +48,7 @@ first m = getD m 0 0
 
 -- a memory whose first total is 1
 abbrev oneText : List ℕ
-oneText = 1 ∷ replicate 6675 0
+oneText = 1 ∷ replicate 6706 0
 
 -- ---- make empty: a memory of the fixed size is not refused; the totals are written
 
@@ -64,7 +64,7 @@ empty-unwritten c = never (sym (ap first (c .memory)))
 
 pub load-refused : (after : List ℕ) → Loads 1 [] noughts (refusing Q.NoRoom) after → ⊥
 unfolding loadReply loading
-load-refused after c = never (number-of (c .reply ∙ rw (noughts-sound, noughts-empty)))
+load-refused after c = never (number-of (c .reply ∙ rw (noughts-sound, noughts-shut, noughts-empty)))
   where
     number-of : refusing Q.NoRoom ≡ Done → _≡_ {A = ℕ} 0 1
     number-of e = cc
@@ -77,7 +77,7 @@ load-unwritten c = never (ap first (c .memory))
 
 pub remove-granted : (after : List ℕ) → Removes 7 noughts Done after → ⊥
 unfolding removeReply loading
-remove-granted after c = never (number-of (c .reply ∙ rw (noughts-sound, noughts-empty)))
+remove-granted after c = never (number-of (c .reply ∙ rw (noughts-sound, noughts-shut, noughts-empty)))
   where
     number-of : Done ≡ refusing Q.NotHeld → _≡_ {A = ℕ} 0 1
     number-of e = cc
@@ -90,7 +90,7 @@ remove-late after c = let n = ap replyNumber (c .reply) in omega (arith, n)
 
 pub clear-refused : (after : List ℕ) → Clears noughts (refusing Q.DamagedPool) after → ⊥
 unfolding clearReply
-clear-refused after c = never (number-of (c .reply ∙ rw noughts-sound))
+clear-refused after c = never (number-of (c .reply ∙ rw (noughts-sound, noughts-shut)))
   where
     number-of : refusing Q.DamagedPool ≡ Done → _≡_ {A = ℕ} 0 1
     number-of e = cc

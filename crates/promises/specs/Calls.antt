@@ -1,12 +1,13 @@
 -- The calls as one: what a call answers on a memory, and the memory that it leaves. Definitions only: each line is the contract
 -- of a function of `globe`.
 use Prim.Native.Nat.{ℕ}
-use mathlib.Core.Bool.{Bool, true, false}
+use mathlib.Core.Bool.{Bool, true, false, not, _&&_}
 use mathlib.Core.List.{List, [], _∷_}
 use lib.Dec.{eqb}
 use lib.Ieee.{Float}
 use lib.ListN.{length}
 use Rattle.refusal.specs.Numbers.{SUCCESS, numberOf}
+use Rattle.refusal.specs.declared.Refusal.the-variants.{NotHeld, DamagedPool}
 use Rattle.rotation.specs.declared.matrix.Oriented.{Oriented}
 use Rattle.rotation.specs.declared.matrix.Oriented.the-variants as O
 use Rattle.rotation.specs.declared.table.Radii.{Radii}
@@ -22,6 +23,7 @@ use Rattle.pool.specs.Remove.{removeReply, removeMemory}
 use Rattle.pool.specs.Fetch.{fetchReply, fetchBuffer}
 use Rattle.pool.specs.FetchString.{stringReply, stringBuffer}
 use Rattle.pool.specs.Totals.{totalsReply}
+use Rattle.intake.specs.Calls.{areBytes, openReply, openMemory, feedReply, feedMemory, closeReply, closeMemory, dropMemory}
 use Rattle.globe.specs.Orientation.{orientationReply}
 use Rattle.globe.specs.Radii.{radiiReply}
 use Rattle.globe.specs.declared.source.Source.{Source}
@@ -30,6 +32,10 @@ use Rattle.globe.specs.declared.source.Source.{Source}
 pub data Call : Type 0 where
   makeEmpty : Call
   load : (label : ℕ) (bytes : List ℕ) → Call
+  openLoad : (label : ℕ) → Call
+  feedPart : (part : List ℕ) → Call
+  closeLoad : Call
+  dropLoad : Call
   remove : (label : ℕ) → Call
   clear : Call
   fetch : (name : List ℕ) (buffer : List Float) → Call
@@ -50,6 +56,10 @@ pub data Answer : Type 0 where
 unfoldable pub asked : Call → (m : List ℕ) → Answer
 asked makeEmpty m = replied (emptyReply m)
 asked (load label bytes) m = replied (loadReply label bytes m)
+asked (openLoad label) m = replied (openReply label m)
+asked (feedPart part) m = replied (feedReply m)
+asked closeLoad m = replied (closeReply m)
+asked dropLoad m = replied (feedReply m)
 asked (remove label) m = replied (removeReply label m)
 asked clear m = replied (clearReply m)
 asked (fetch name buffer) m = fetched (fetchReply name (length buffer) m) (fetchBuffer name m buffer)
@@ -58,10 +68,30 @@ asked totals m = counted (totalsReply m)
 asked (orientation source code epoch) m = oriented (orientationReply source m code epoch)
 asked (radii source code) m = measured (radiiReply source m code)
 
+-- a part is bytes, as a slice of them is
+abbrev pub typed : Call → Bool
+typed makeEmpty = true
+typed (load label bytes) = true
+typed (openLoad label) = true
+typed (feedPart part) = areBytes part
+typed closeLoad = true
+typed dropLoad = true
+typed (remove label) = true
+typed clear = true
+typed (fetch name buffer) = true
+typed (fetchString name place buffer) = true
+typed totals = true
+typed (orientation source code epoch) = true
+typed (radii source code) = true
+
 -- the memory after a call
 unfoldable pub leaves : Call → (m : List ℕ) → List ℕ
 leaves makeEmpty m = emptied (emptyReply m) m
 leaves (load label bytes) m = loadMemory label bytes m
+leaves (openLoad label) m = openMemory label m
+leaves (feedPart part) m = feedMemory part m
+leaves closeLoad m = closeMemory m
+leaves dropLoad m = dropMemory m
 leaves (remove label) m = removeMemory label m
 leaves clear m = emptied (clearReply m) m
 leaves (fetch name buffer) m = m
@@ -74,6 +104,10 @@ leaves (radii source code) m = m
 abbrev pub query : Call → Bool
 query makeEmpty = false
 query (load label bytes) = false
+query (openLoad label) = false
+query (feedPart part) = false
+query closeLoad = false
+query dropLoad = false
 query (remove label) = false
 query clear = false
 query (fetch name buffer) = true
@@ -169,6 +203,10 @@ none = record { values = []; bytes = [] }
 abbrev pub lent : Call → Buffers
 lent makeEmpty = none
 lent (load label bytes) = none
+lent (openLoad label) = none
+lent (feedPart part) = none
+lent closeLoad = none
+lent dropLoad = none
 lent (remove label) = none
 lent clear = none
 lent (fetch name buffer) = record { values = buffer; bytes = [] }
@@ -184,3 +222,20 @@ returned (spelled r buffer) = record { values = []; bytes = buffer }
 returned (counted r) = none
 returned (oriented r) = none
 returned (measured r) = none
+
+-- ---- "A closing refused by any but 8 and 15 ends the open text, its only change"
+
+abbrev pub endsOpen : Call → (number : ℕ) → Bool
+endsOpen makeEmpty n = false
+endsOpen (load label bytes) n = false
+endsOpen (openLoad label) n = false
+endsOpen (feedPart part) n = false
+endsOpen closeLoad n = not (eqb n (numberOf NotHeld)) && not (eqb n (numberOf DamagedPool))
+endsOpen dropLoad n = false
+endsOpen (remove label) n = false
+endsOpen clear n = false
+endsOpen (fetch name buffer) n = false
+endsOpen (fetchString name place buffer) n = false
+endsOpen totals n = false
+endsOpen (orientation source code epoch) n = false
+endsOpen (radii source code) n = false

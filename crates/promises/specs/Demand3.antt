@@ -11,7 +11,7 @@ use Rattle.variables.specs.Variables as D
 use Rattle.variables.specs.Variables.{Datum}
 use Rattle.pool.specs.declared.reply.Fetched.the-variants.{Count}
 use Rattle.promises.specs.Calls.{Call, fetch, fetchString, fetched, spelled, Build}
-use Rattle.promises.specs.Histories.{after, Fresh, Replay, texts, OfHeldTexts}
+use Rattle.promises.specs.Histories.{after, Fresh, Typed, Replay, texts, OfHeldTexts}
 use Rattle.promises.specs.Sentence.{Said}
 
 -- these doubles are the values of the name, as the sentence has them, and all of them are numbers
@@ -30,10 +30,10 @@ pub record Demand3 (b : Build) : Type 0 where
   pub replay : Replay b
   pub held : OfHeldTexts b
   pub sentence :
-      (m : List ℕ) → Fresh b m → (history : List Call) (name : List ℕ) (buffer left : List Float) (n : ℕ)
+      (m : List ℕ) → Fresh b m → (history : List Call) (name : List ℕ) (buffer left : List Float) (n : ℕ) → Typed history
       → b .answer (fetch name buffer) (after b history m) ≡ fetched (Count n) left
       → Spoken name (texts b history m) (take n left)
   pub strings :
-      (m : List ℕ) → Fresh b m → (history : List Call) (name : List ℕ) (place : ℕ) (buffer left : List ℕ) (n : ℕ)
+      (m : List ℕ) → Fresh b m → (history : List Call) (name : List ℕ) (place : ℕ) (buffer left : List ℕ) (n : ℕ) → Typed history
       → b .answer (fetchString name place buffer) (after b history m) ≡ spelled (Count n) left
       → SpokenAt name place (texts b history m) (take n left)

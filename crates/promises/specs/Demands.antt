@@ -3,7 +3,7 @@ use Prim.Native.Nat.{ℕ, _≤_}
 use mathlib.Core.Path.{_≡_}
 use mathlib.Core.Bool.{Bool, true, false, _||_}
 use mathlib.Core.List.{List, [], _∷_, _++_}
-use mathlib.Core.Logic.{_↔_}
+use mathlib.Core.Logic.{_↔_, _⊎_}
 use lib.Ieee.{Float}
 use lib.Ieee.Scale.{finite}
 use lib.ListN.{length, drop}
@@ -35,11 +35,15 @@ use Rattle.text.specs.Text.{fine, refused, readText}
 use Rattle.value.specs.declared.faults.Fault.{Fault}
 use Rattle.layout.specs.State.{Pool}
 use Rattle.layout.specs.Limits.{room, LONGEST-LOAD}
-use Rattle.layout.specs.Memory.{decode}
+use Rattle.layout.specs.Memory.{decode, opens}
 use Rattle.layout.specs.Damage.{sound}
 use Rattle.pool.specs.Empty.{Empties, Clears}
 use Rattle.pool.specs.Load.{held, textOf, with, Loads}
 use Rattle.pool.specs.Remove.{Removes}
+use Rattle.feeding.specs.Parts.{MOST, joined}
+use Rattle.intake.specs.Opened.{shut}
+use Rattle.intake.specs.Calls.{areBytes, Opens, Feeds, Closes, Drops}
+use Rattle.plain.specs.Choice.{if_then_else_}
 use Rattle.variables.specs.Found as F
 use Rattle.variables.specs.Variables.{variable}
 use Rattle.variables.specs.Spelled.{stringOf}
@@ -57,7 +61,8 @@ use Rattle.globe.specs.declared.source.Source.{Source}
 use Rattle.globe.specs.declared.source.Source.the-variants as S
 use Rattle.wanted.specs.declared.name.Wanted.the-variants as W
 use Rattle.promises.specs.Calls as C
-use Rattle.promises.specs.Calls.{Call, Answer, load, orientation, radii, oriented, measured, query, Build, number, line, column, count, doubles, totalled, accepted, lent, returned}
+use Rattle.promises.specs.Calls.{Call, Answer, load, orientation, radii, oriented, measured, query, Build, number, line, column, count, doubles, totalled, accepted, endsOpen, lent, returned}
+use Rattle.promises.specs.Histories.{fedUnder}
 
 -- ---- demand 1: "Every public call has a contract that determines result and lent memory entirely, refusals too."
 
@@ -73,6 +78,12 @@ pub record Contracts (b : Build) : Type 0 where
   pub load :
       (label : ℕ) (bytes m : List ℕ)
       → Meets C.replied (λ r. Loads label bytes m r (b .memory (C.load label bytes) m)) (b .answer (C.load label bytes) m)
+  pub openLoad :
+      (label : ℕ) (m : List ℕ) → Meets C.replied (λ r. Opens label m r (b .memory (C.openLoad label) m)) (b .answer (C.openLoad label) m)
+  pub feedPart :
+      (part m : List ℕ) → Meets C.replied (λ r. Feeds part m r (b .memory (C.feedPart part) m)) (b .answer (C.feedPart part) m)
+  pub closeLoad : (m : List ℕ) → Meets C.replied (λ r. Closes m r (b .memory C.closeLoad m)) (b .answer C.closeLoad m)
+  pub dropLoad : (m : List ℕ) → Meets C.replied (λ r. Drops m r (b .memory C.dropLoad m)) (b .answer C.dropLoad m)
   pub remove :
       (label : ℕ) (m : List ℕ) → Meets C.replied (λ r. Removes label m r (b .memory (C.remove label) m)) (b .answer (C.remove label) m)
   pub clear : (m : List ℕ) → Meets C.replied (λ r. Clears m r (b .memory C.clear m)) (b .answer C.clear m)
@@ -102,6 +113,10 @@ OneOutcome {A} {B} Meets = (r r′ : A) (after after′ : B) → Meets r after �
 pub record NoSecondAnswer : Type 0 where
   pub makeEmpty : (before : List ℕ) → OneOutcome (Empties before)
   pub load : (label : ℕ) (bytes before : List ℕ) → OneOutcome (Loads label bytes before)
+  pub openLoad : (label : ℕ) (before : List ℕ) → OneOutcome (Opens label before)
+  pub feedPart : (part before : List ℕ) → OneOutcome (Feeds part before)
+  pub closeLoad : (before : List ℕ) → OneOutcome (Closes before)
+  pub dropLoad : (before : List ℕ) → OneOutcome (Drops before)
   pub remove : (label : ℕ) (before : List ℕ) → OneOutcome (Removes label before)
   pub clear : (before : List ℕ) → OneOutcome (Clears before)
   pub fetch : (name memory : List ℕ) (before : List Float) → OneOutcome (Fetches name memory before)
@@ -132,14 +147,19 @@ pub record Reports (b : Build) : Type 0 where
   pub faults :
       (label : ℕ) (bytes m : List ℕ) (q : Refusal) (n k : ℕ) → b .answer (load label bytes) m ≡ C.replied (Refused q n k)
       → points (numberOf q) ≡ true → Faulty bytes q n k
+  pub faultsOfParts :
+      (label : ℕ) (parts : List (List ℕ)) (m : List ℕ) (q : Refusal) (n k : ℕ) → areBytes (joined parts) ≡ true → accepted (b .answer (C.openLoad label) m) ≡ true
+      → b .answer C.closeLoad (fedUnder b label parts m) ≡ C.replied (Refused q n k) → points (numberOf q) ≡ true → Faulty (joined parts) q n k
   pub noValues :
       (c : Call) (m : List ℕ) → accepted (b .answer c m) ≡ false
       → (count (b .answer c m) ≡ 0) × (doubles (b .answer c m) ≡ []) × (totalled (b .answer c m) ≡ [])
 
--- "a refusal changes nothing in the pool or any lent buffer"
+-- "a refusal changes nothing in the pool or any lent buffer", but that a closing "refused by any but 8 and 15 ends the open text, its only change":
+-- the one word that says so
 abbrev pub RefusalChangesNothing : Build → Type 0
 RefusalChangesNothing b =
-    (c : Call) (m : List ℕ) → accepted (b .answer c m) ≡ false → (b .memory c m ≡ m) × (returned (b .answer c m) ≡ lent c)
+    (c : Call) (m : List ℕ) → accepted (b .answer c m) ≡ false → (b .memory c m ≡ (if endsOpen c (number (b .answer c m)) then shut m else m))
+    × (returned (b .answer c m) ≡ lent c)
 
 -- "A successful fetch writes the values from the buffer's start and no further."
 abbrev pub FetchWrites : Build → Type 0
@@ -162,10 +182,12 @@ NoDamage b = (c : Call) (m : List ℕ) → sound m ≡ true → sound (b .memory
 
 -- ---- demand 2: "A text is accepted exactly when its label is not held, the rules admit it and the undamaged pool has room."
 
-pub record Admissible (label : ℕ) (bytes m : List ℕ) : Type 0 where
+-- with at most so many bytes, while no text is open
+pub record Admissible (longest label : ℕ) (bytes m : List ℕ) : Type 0 where
   pub undamaged : sound m ≡ true
+  pub noneOpen : opens m ≡ false
   pub free : held label (decode m) ≡ false
-  pub short : length bytes ≤ LONGEST-LOAD
+  pub short : length bytes ≤ longest
   pub events : List Event
   pub admitted : readText bytes ≡ fine events
   pub roomy : room (with (decode m) (textOf label bytes)) ≡ true
@@ -205,7 +227,11 @@ pub record HasRadii (s : Pool) (n : ℕ) (x : Axes) : Type 0 where
 
 -- "exactly when", both ways, of any build
 pub record Demand2 (b : Build) : Type 0 where
-  pub texts : (label : ℕ) (bytes m : List ℕ) → (accepted (b .answer (load label bytes) m) ≡ true) ↔ Admissible label bytes m
+  pub texts : (label : ℕ) (bytes m : List ℕ) → (accepted (b .answer (load label bytes) m) ≡ true) ↔ Admissible LONGEST-LOAD label bytes m
+  -- "Demands 2 and 3 count a load at its closing"
+  pub textsInParts :
+      (label : ℕ) (parts : List (List ℕ)) (m : List ℕ) → areBytes (joined parts) ≡ true → opens m ≡ false
+      → (accepted (b .answer C.closeLoad (fedUnder b label parts m)) ≡ true) ↔ Admissible MOST label (joined parts) m
   pub poolOrientations :
       (m : List ℕ) (n : ℕ) (epoch : Float) (o : Orientation)
       → (b .answer (orientation S.Pool n epoch) m ≡ oriented (O.Given o)) ↔ ((sound m ≡ true) × HasElements (decode m) n epoch o)
@@ -264,6 +290,10 @@ pub record OfTable (n : ℕ) (epoch : Float) (o : Orientation) : Type 0 where
   pub listed : rowOf n ≡ Held row
   pub evaluation : o ≡ rowEvaluated n row epoch
 
+-- the call is a query, or no text is open in either memory
+abbrev pub AlikeOpen : Call → (m m′ : List ℕ) → Type 0
+AlikeOpen c m m′ = (query c ≡ true) ⊎ ((opens m ≡ false) × (opens m′ ≡ false))
+
 -- what a pool gives is all of its texts, and what the table gives is all of the table, whatever memory is lent
 pub record NeverBlended (b : Build) : Type 0 where
   pub poolOrientations :
@@ -279,4 +309,4 @@ pub record NeverBlended (b : Build) : Type 0 where
   pub tables :
       (m m′ : List ℕ) (n : ℕ) (epoch : Float) → b .answer (orientation S.Builtin n epoch) m ≡ b .answer (orientation S.Builtin n epoch) m′
   pub sizes : (m m′ : List ℕ) (n : ℕ) → b .answer (radii S.Builtin n) m ≡ b .answer (radii S.Builtin n) m′
-  pub pools : (c : Call) (m m′ : List ℕ) → sound m ≡ true → sound m′ ≡ true → decode m ≡ decode m′ → b .answer c m ≡ b .answer c m′
+  pub pools : (c : Call) (m m′ : List ℕ) → sound m ≡ true → sound m′ ≡ true → decode m ≡ decode m′ → AlikeOpen c m m′ → b .answer c m ≡ b .answer c m′

@@ -4,6 +4,7 @@ pub mod Marked
 pub mod Calls
 pub mod Histories
 pub mod Demands
+pub mod Parts
 pub mod Order
 pub mod Before
 pub mod Renumbered

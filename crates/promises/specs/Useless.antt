@@ -3,7 +3,7 @@
 use Prim.Native.Nat.{ℕ, _≤_, _<_}
 use mathlib.Core.Path.{_≡_}
 use mathlib.Core.Bool.{Bool, true, false}
-use mathlib.Core.List.{List}
+use mathlib.Core.List.{List, [], _++_}
 use lib.Ieee.{Float}
 use lib.ListN.{length}
 use Rattle.plain.specs.Choice.{if_then_else_}
@@ -21,10 +21,11 @@ use Rattle.text.specs.Columns.{columnOf}
 use Rattle.text.specs.Text.{refused, readText}
 use Rattle.value.specs.declared.faults.Fault.{Fault}
 use Rattle.layout.specs.State.{Pool}
-use Rattle.layout.specs.Memory.{decode}
+use Rattle.layout.specs.Memory.{decode, opens}
+use Rattle.feeding.specs.Parts.{joined}
 use Rattle.layout.specs.Damage.{sound}
 use Rattle.layout.specs.Limits.{LONGEST-LOAD}
-use Rattle.pool.specs.Load.{held}
+use Rattle.pool.specs.Load.{held, textOf}
 use Rattle.pool.specs.Totals.{counts}
 use Rattle.pool.specs.declared.reply.Counts.{Counts}
 use Rattle.pool.specs.declared.reply.Reply.the-variants.{Refused}
@@ -32,9 +33,9 @@ use Rattle.wanted.specs.Elements.{there, allThere, elements, angles, list}
 use Rattle.wanted.specs.declared.name.Wanted.the-variants as W
 use Rattle.globe.specs.declared.source.Source.{Source}
 use Rattle.globe.specs.declared.source.Source.the-variants as S
-use Rattle.promises.specs.Calls.{Call, load, remove, totals, orientation, radii, replied, counted, oriented, measured, Build, accepted}
+use Rattle.promises.specs.Calls.{Call, load, remove, totals, orientation, radii, replied, counted, oriented, measured, query, Build, accepted}
 use Rattle.promises.specs.Demands.{Contracts, Demand2, NeverBlended}
-use Rattle.promises.specs.Histories.{Loaded, loading, after, Fresh, texts}
+use Rattle.promises.specs.Histories.{Loaded, inParts, coming, loading, after, fedUnder, Fresh, Typed, AllAccepted, texts}
 use Rattle.promises.specs.Demand3.{Demand3}
 
 -- ---- demand 2
@@ -108,8 +109,9 @@ pub record StoresNothing (b : Build) : Type 0 where
   pub m : List ℕ
   pub empty : Fresh b m
   pub text : Loaded
-  pub yes : accepted (b .answer (loading text) m) ≡ true
-  pub nothing : Alike b (b .memory (loading text) m) m
+  pub bytes : Typed (loading text)
+  pub yes : AllAccepted b (loading text) m
+  pub nothing : Alike b (after b (loading text) m) m
 
 -- "a pool that heeds the first load only": a second one is accepted, and every answer is as before it
 pub record HeedsFirstOnly (b : Build) : Type 0 where
@@ -117,24 +119,48 @@ pub record HeedsFirstOnly (b : Build) : Type 0 where
   pub empty : Fresh b m
   pub first : Loaded
   pub second : Loaded
-  pub yes : accepted (b .answer (loading first) m) ≡ true
-  pub again : accepted (b .answer (loading second) (b .memory (loading first) m)) ≡ true
-  pub nothing : Alike b (b .memory (loading second) (b .memory (loading first) m)) (b .memory (loading first) m)
+  pub bytes : Typed (loading first ++ loading second)
+  pub yes : AllAccepted b (loading first) m
+  pub again : AllAccepted b (loading second) (after b (loading first) m)
+  pub nothing : Alike b (after b (loading second) (after b (loading first) m)) (after b (loading first) m)
 
 -- "a removal that only says yes": every answer is as before it
 pub record OnlySaysYes (b : Build) : Type 0 where
   pub m : List ℕ
   pub empty : Fresh b m
   pub text : Loaded
-  pub held : accepted (b .answer (loading text) m) ≡ true
-  pub yes : accepted (b .answer (remove (text .label)) (b .memory (loading text) m)) ≡ true
-  pub nothing : Alike b (b .memory (remove (text .label)) (b .memory (loading text) m)) (b .memory (loading text) m)
+  pub bytes : Typed (loading text)
+  pub held : AllAccepted b (loading text) m
+  pub yes : accepted (b .answer (remove (text .label)) (after b (loading text) m)) ≡ true
+  pub nothing : Alike b (b .memory (remove (text .label)) (after b (loading text) m)) (after b (loading text) m)
+
+-- one that forgets an opening's parts: a text that came in parts is accepted, and every answer is as if no part had come
+pub record ForgetsParts (b : Build) : Type 0 where
+  pub m : List ℕ
+  pub empty : Fresh b m
+  pub label : ℕ
+  pub parts : List (List ℕ)
+  pub bytes : Typed (coming label (inParts parts))
+  pub yes : AllAccepted b (coming label (inParts parts)) m
+  pub some : 0 < length (textOf label (joined parts) .body)
+  pub forgotten : Alike b (after b (coming label (inParts parts)) m) (after b (coming label (inParts [])) m)
+
+-- one that shows an open text to queries: they answer as if it were held already
+pub record ShowsOpen (b : Build) : Type 0 where
+  pub m : List ℕ
+  pub empty : Fresh b m
+  pub label : ℕ
+  pub parts : List (List ℕ)
+  pub bytes : Typed (coming label (inParts parts))
+  pub yes : AllAccepted b (coming label (inParts parts)) m
+  pub shown : (c : Call) → query c ≡ true → b .answer c (fedUnder b label parts m) ≡ b .answer c (after b (coming label (inParts parts)) m)
 
 -- "totals not those of the held texts"
 pub record OtherTotals (b : Build) : Type 0 where
   pub m : List ℕ
   pub empty : Fresh b m
   pub history : List Call
+  pub typed : Typed history
   pub told : Counts
   pub tells : b .answer totals (after b history m) ≡ counted told
   pub others : told ≡ counts (texts b history m) → ⊥
@@ -147,6 +173,7 @@ pub record InventedLine (b : Build) : Type 0 where
   pub bytes : List ℕ
   pub m : List ℕ
   pub undamaged : sound m ≡ true
+  pub noneOpen : opens m ≡ false
   pub free : held label (decode m) ≡ false
   pub short : length bytes ≤ LONGEST-LOAD
   pub fault : Fault
@@ -172,5 +199,7 @@ pub record Caught : Type 0 where
   pub storesNothing : (b : Build) → Demand3 b → StoresNothing b → ⊥
   pub heedsFirstOnly : (b : Build) → Demand3 b → HeedsFirstOnly b → ⊥
   pub onlySaysYes : (b : Build) → Demand3 b → OnlySaysYes b → ⊥
+  pub forgetsParts : (b : Build) → Demand3 b → ForgetsParts b → ⊥
+  pub showsOpen : (b : Build) → Demand3 b → ShowsOpen b → ⊥
   pub otherTotals : (b : Build) → Demand3 b → OtherTotals b → ⊥
   pub inventedLine : (b : Build) → Contracts b → InventedLine b → ⊥
