@@ -32,7 +32,8 @@ static const struct {
     const char *name, *advice;
 } refusals[] = {
     [GLOBE_LABEL_HELD] = {"LABEL HELD", "remove the text under this label, or use another label"},
-    [GLOBE_TEXT_TOO_LONG] = {"TEXT TOO LONG", "split the text: one has at most 65,536 bytes"},
+    [GLOBE_TEXT_TOO_LONG] = {"TEXT TOO LONG",
+                             "split the text, or feed it in parts: one has at most 65,536 bytes"},
     [GLOBE_LINE_TOO_LONG] = {"LINE TOO LONG", "break the line: a data line has at most 132 bytes"},
     [GLOBE_BAD_BYTE] = {"BAD BYTE", "retype the line in plain letters, digits, signs and blanks"},
     [GLOBE_NUMBER] = {"NUMBER", "shorten the number: it has over 19 digits or too steep a power"},
@@ -61,6 +62,7 @@ static const struct {
                                       "single quotes; a list has one kind of them"},
     [GLOBE_OPEN_LIST] = {"OPEN LIST", "give the list a value and close it with a )"},
     [GLOBE_REST_OF_LINE] = {"REST OF LINE", "take this away, or begin a new line before it"},
+    [GLOBE_TEXT_OPEN] = {"TEXT OPEN", "close or drop the text that is open"},
     [GLOBE_BAD_DEGREE] = {"BAD DEGREE", "give MAX_PHASE_DEGREE one number: 1, 2 or 3"},
     [GLOBE_BAD_RADIUS] = {"BAD RADIUS", "look up the radii: each is greater than 0"},
 };

@@ -8,6 +8,18 @@ pub fn load(pool: &mut [u64], label: u32, text: &[u8]) -> u32 {
     unsafe { sys::globe_load(pool.as_mut_ptr(), words, label, text.as_ptr(), bytes) }.number
 }
 
+pub fn open(pool: &mut [u64], label: u32) -> u32 {
+    unsafe { sys::globe_open(pool.as_mut_ptr(), pool.len(), label) }.number
+}
+
+pub fn feed(pool: &mut [u64], part: &[u8]) -> u32 {
+    unsafe { sys::globe_feed(pool.as_mut_ptr(), pool.len(), part.as_ptr(), part.len()) }.number
+}
+
+pub fn close(pool: &mut [u64]) -> u32 {
+    unsafe { sys::globe_close(pool.as_mut_ptr(), pool.len()) }.number
+}
+
 pub fn remove(pool: &mut [u64], label: u32) -> u32 {
     unsafe { sys::globe_remove(pool.as_mut_ptr(), pool.len(), label) }.number
 }

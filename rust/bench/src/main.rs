@@ -5,6 +5,7 @@ mod drive;
 mod facts;
 mod library;
 mod numbers;
+mod parts;
 mod probes;
 mod stack;
 mod strings;
@@ -16,7 +17,10 @@ mod work;
 fn main() {
     println!("## Times\n");
     println!("{}\n", facts::machine());
-    table::print_times(&work::measured());
+    let rows = work::measured();
+    table::print_times(&rows);
+    println!();
+    parts::print_beside_load(&rows);
     println!("\n## Firmware facts\n");
     facts::print();
 }

@@ -2,6 +2,7 @@
 
 use globe_sys as sys;
 use twin::limits::{STRING_BYTES, VALUES};
+use twin::parts;
 
 use crate::numbers;
 use crate::stack::{depth, Call};
@@ -64,6 +65,14 @@ pub fn stacks() -> Vec<(&'static str, usize)> {
     ];
     // The last one is damaged: its values are one fewer than its statements say.
     pools[5][2] -= 1;
+    // In some more a text is open, in the middle of a line that can be read once it is complete.
+    pools.extend([0, 6, 15].map(|texts| {
+        let mut words = pool_of(texts);
+        parts::open(&mut words, FREE_LABEL as u32).expect("a free label");
+        parts::feed(&mut words, b"note\n\\begindata\nX = ( 'a' )\nY = ( 1.5E")
+            .expect("an open text");
+        words
+    }));
     probes(&mut lent)
         .iter()
         .map(|probe| (probe.name, probe.deepest(&pools)))
@@ -78,6 +87,11 @@ fn probes(lent: &mut Lent) -> Vec<Probe> {
         .iter()
         .map(|text| vec![FREE_LABEL, text.as_ptr() as usize, text.len()])
         .collect();
+    let feeds = lent
+        .texts
+        .iter()
+        .map(|text| vec![text.as_ptr() as usize, text.len()])
+        .collect();
     let (name, buffer) = (lent.name.as_ptr(), lent.buffer.as_mut_ptr());
     let fetch = vec![name as usize, lent.name.len(), buffer as usize, VALUES];
     let (name, bytes) = (lent.caption.as_ptr(), lent.bytes.as_mut_ptr());
@@ -90,6 +104,10 @@ fn probes(lent: &mut Lent) -> Vec<Probe> {
     vec![
         replying("make empty", sys::globe_make_empty as _, nothing.clone()),
         replying("load", sys::globe_load as _, loads),
+        replying("open", sys::globe_open as _, vec![vec![FREE_LABEL + 1]]),
+        replying("feed", sys::globe_feed as _, feeds),
+        replying("close", sys::globe_close as _, nothing.clone()),
+        replying("drop", sys::globe_drop as _, nothing.clone()),
         replying(
             "remove",
             sys::globe_remove as _,

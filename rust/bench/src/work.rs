@@ -1,6 +1,7 @@
 //! What is measured: each call, on pools that hold 1, 6 and 16 texts, then on a pool full of strings,
-//! and then the reading of a number; the drive's moves stand beside the orientations that they ask for. Questions are about the text that was loaded first, and removals
-//! take that one out, so that all others stand after it.
+//! then texts in parts and the reading of a number; the drive's moves stand beside the orientations
+//! that they ask for. Questions are about the text that was loaded first, and removals take that
+//! one out, so that all others stand after it.
 
 use std::hint::black_box;
 
@@ -11,6 +12,7 @@ use twin::{answers, builtin, pool};
 use crate::drive;
 use crate::library;
 use crate::numbers;
+use crate::parts;
 use crate::strings;
 use crate::texts::{body, kernel, system, system_of_degree};
 use crate::timing::{medians, Restore, Side};
@@ -21,11 +23,14 @@ pub const ORIENTATION_GOAL: f64 = 1.5;
 const OTHER_GOAL: f64 = 3.0;
 
 /// The texts that are held, one after another.
-const HELD: [u32; 3] = [1, 6, 16];
+pub const HELD: [u32; 3] = [1, 6, 16];
 
 /// The texts that are held where the first one's angles are of a higher degree: so many that its
 /// further values find room.
 const HELD_OF_DEGREE: [u32; 2] = [1, 6];
+
+/// The load that texts in parts are compared with.
+pub const KERNEL_LOAD: &str = "load a kernel";
 
 /// What is asked for.
 pub const EPOCH: f64 = 123_456_789.125;
@@ -72,7 +77,7 @@ impl Work<'_> {
 
 /// All rows, in the order of the table.
 pub fn measured() -> Vec<Row> {
-    let mut rows = vec![loaded("load a kernel", 0, &kernel()), read_once()];
+    let mut rows = vec![loaded(KERNEL_LOAD, 0, &kernel()), read_once()];
     rows.extend(HELD.map(|texts| loaded("load a system", texts - 1, &system(texts - 1))));
     for measure in [removed, cleared, fetched, counted, oriented, sized] {
         rows.extend(HELD.map(measure));
@@ -82,6 +87,7 @@ pub fn measured() -> Vec<Row> {
     rows.push(sized_by_table());
     rows.extend(drive::measured());
     rows.extend(strings::measured());
+    rows.extend(parts::measured());
     rows.extend(numbers::measured());
     rows
 }

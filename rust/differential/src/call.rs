@@ -9,6 +9,14 @@ pub enum Call<'a> {
         label: u32,
         text: &'a [u8],
     },
+    Open {
+        label: u32,
+    },
+    Feed {
+        part: &'a [u8],
+    },
+    Close,
+    Drop,
     Remove {
         label: u32,
     },
@@ -66,8 +74,20 @@ impl Call<'_> {
     pub fn writes(&self) -> bool {
         matches!(
             self,
-            Call::MakeEmpty | Call::Load { .. } | Call::Remove { .. } | Call::Clear
+            Call::MakeEmpty
+                | Call::Load { .. }
+                | Call::Open { .. }
+                | Call::Feed { .. }
+                | Call::Close
+                | Call::Drop
+                | Call::Remove { .. }
+                | Call::Clear
         )
+    }
+
+    /// Whether it ends the open text though it is refused: a closing by any number but 8 and 15.
+    pub fn ends_open_text(&self, number: u32) -> bool {
+        matches!(self, Call::Close) && ![8, 15].contains(&number)
     }
 }
 
@@ -127,6 +147,10 @@ impl fmt::Display for Call<'_> {
             Call::Load { label, text } => {
                 write!(f, "load under {label} the text \"{}\"", text.escape_ascii())
             }
+            Call::Open { label } => write!(f, "open {label}"),
+            Call::Feed { part } => write!(f, "feed \"{}\"", part.escape_ascii()),
+            Call::Close => write!(f, "close"),
+            Call::Drop => write!(f, "drop"),
             Call::Remove { label } => write!(f, "remove {label}"),
             Call::Clear => write!(f, "clear"),
             Call::Fetch { name, room } => {

@@ -1,10 +1,13 @@
 //! Damaged pools: words changed, sizes wrong. Every call returns, with the twin's answer.
 
 use twin::layout::{
-    kind, lower, pair as pair_of, Held, HEADS_AT, NAMES_AT, NAME_WORDS, STATEMENT_TOTAL,
-    STRINGS_AT, STRING_TOTAL, TEXTS_AT, TEXT_TOTAL, VALUES_AT, VALUE_TOTAL, WORDS,
+    is_open, kind, lower, pair as pair_of, put_byte, Held, BYTE_COUNT, HEADS_AT, KEPT_LENGTH,
+    NAMES_AT, NAME_WORDS, OPEN, OPEN_STRING_BYTES, OPEN_VALUES, STATEMENT_TOTAL, STRINGS_AT,
+    STRING_TOTAL, TEXTS_AT, TEXT_TOTAL, VALUES_AT, VALUE_TOTAL, WORDS,
 };
-use twin::limits::{STATEMENTS, STRING_BYTES, STRING_ROOM, TEXTS, VALUES, VALUE_EXPONENT};
+use twin::limits::{
+    KEPT_BYTES, PARTS_BYTES, STATEMENTS, STRING_BYTES, STRING_ROOM, TEXTS, VALUES, VALUE_EXPONENT,
+};
 use twin::text::Kind;
 
 use crate::bodies;
@@ -66,7 +69,27 @@ fn pool(random: &mut Random) -> Vec<u64> {
         };
         pair.ask(&Call::Load { label, text: &text });
     }
+    if random.once_in(2) {
+        open_text(&mut pair, random);
+    }
     pair.words().to_vec()
+}
+
+/// Opens a text and feeds it, mostly up to somewhere in a line.
+fn open_text(pair: &mut Pair, random: &mut Random) {
+    pair.ask(&Call::Open { label: 99 });
+    let text = match random.below(4) {
+        0 => texts::text(random),
+        1 => b"\\begindata\nX += ( 'a' 'caption'\nY".to_vec(),
+        2 => b"\\begindata\nX = 1\nX += (\n".to_vec(),
+        _ => bodies::text(random),
+    };
+    let cut = if random.once_in(3) {
+        random.below(text.len() + 1)
+    } else {
+        text.len()
+    };
+    pair.ask(&Call::Feed { part: &text[..cut] });
 }
 
 /// Every call, each on the same words.
@@ -95,6 +118,11 @@ fn ask_all(pair: &mut Pair, words: &[u64], random: &mut Random, tally: &mut Tall
         Call::BuiltinOrientation { body, epoch },
         Call::BuiltinRadii { body },
         Call::Load { label, text: &text },
+        Call::Open { label },
+        Call::Feed { part: b"" },
+        Call::Feed { part: &text },
+        Call::Close,
+        Call::Drop,
         Call::Remove { label },
         Call::Clear,
         Call::MakeEmpty,
@@ -124,14 +152,13 @@ fn wrong_size(random: &mut Random) -> usize {
 
 /// Changes a word. It is damage only if the word is in use and its new content is wrong.
 fn damage(words: &mut [u64], random: &mut Random) {
-    let texts = (words[TEXT_TOTAL] as usize).clamp(1, TEXTS);
-    let statements = (words[STATEMENT_TOTAL] as usize).clamp(1, STATEMENTS);
-    let values = (words[VALUE_TOTAL] as usize).clamp(1, VALUES);
+    let [texts, statements, values] = counts(words);
     let text = TEXTS_AT + random.below(texts);
     let head = HEADS_AT + random.below(statements);
     let name = NAMES_AT + random.below(NAME_WORDS * statements);
     let value = VALUES_AT + random.below(values);
-    match random.below(20) {
+    match random.below(26) {
+        20.. => damage_open(words, random),
         0 => words[random.below(WORDS)] ^= 1 << random.below(64),
         1 => {
             let place = random.one(&[text, head, name, value]);
@@ -160,15 +187,61 @@ fn damage(words: &mut [u64], random: &mut Random) {
     }
 }
 
+/// The texts, statements and values in use, those of an open text too; at least one of each.
+fn counts(words: &[u64]) -> [usize; 3] {
+    let mut counts = [TEXT_TOTAL, STATEMENT_TOTAL, VALUE_TOTAL].map(|place| words[place] as usize);
+    if is_open(words) {
+        let statements = lower(words[TEXTS_AT + counts[0].min(TEXTS)]) as usize;
+        let more = [1, statements, words[OPEN_VALUES] as usize];
+        for (count, more) in counts.iter_mut().zip(more) {
+            *count = count.saturating_add(more);
+        }
+    }
+    let [texts, statements, values] = counts;
+    [
+        texts.clamp(1, TEXTS + 1),
+        statements.clamp(1, STATEMENTS),
+        values.clamp(1, VALUES),
+    ]
+}
+
+/// Changes a word of the open text, to what is out of its range or has another meaning.
+fn damage_open(words: &mut [u64], random: &mut Random) {
+    let place = match random.below(6) {
+        0 => random.one(&[OPEN_VALUES, OPEN_STRING_BYTES]),
+        1 => random.one(&[KEPT_LENGTH, BYTE_COUNT]),
+        _ => random.between(OPEN, TEXTS_AT - 1),
+    };
+    let (kept, most) = (KEPT_BYTES as u64, PARTS_BYTES as u64);
+    let near = words[place].wrapping_add(random.one(&[1, u64::MAX]));
+    words[place] = match random.below(4) {
+        0 => near,
+        1 => random.below(9) as u64,
+        2 => random.one(&[kept - 1, kept, kept + 1, most - 1, most, most + 1, most + 2]),
+        _ => random.bits() >> random.one(&[0, 0, 31, 40]),
+    };
+}
+
 /// Changes a byte of the strings, a length, or two of them that still add up.
 fn damage_strings(words: &mut [u64], head: usize, value: usize, random: &mut Random) {
-    let bytes = (words[STRING_TOTAL] as usize).clamp(1, STRING_ROOM);
+    let open = if is_open(words) {
+        words[OPEN_STRING_BYTES] as usize
+    } else {
+        0
+    };
+    let bytes = (words[STRING_TOTAL] as usize).saturating_add(open);
+    let bytes = bytes.clamp(1, STRING_ROOM);
     match random.below(8) {
-        0 => put_byte(words, random.below(bytes), random.bits() as u8),
+        0 => put_byte(
+            &mut words[STRINGS_AT..],
+            random.below(bytes),
+            random.bits() as u8,
+        ),
         1 => {
             // The last byte in use, or the first that is not.
             let place = (bytes - random.below(2)).min(STRING_ROOM - 1);
-            put_byte(words, place, random.one(b"\0\x1f\x7f\x80\xff\n\t~"));
+            let byte = random.one(b"\0\x1f\x7f\x80\xff\n\t~");
+            put_byte(&mut words[STRINGS_AT..], place, byte);
         }
         2 => words[value] = random.one(&[0, 1, 59, 60, 61, 1 << 32, 1 << 63, u64::MAX]),
         3 => words[value] = words[value].wrapping_add(random.one(&[1, u64::MAX])),
@@ -206,13 +279,6 @@ fn string_values(words: &[u64]) -> Vec<usize> {
         }
     }
     places
-}
-
-/// Puts a byte into the area of strings.
-fn put_byte(words: &mut [u64], place: usize, byte: u8) {
-    let shift = 56 - 8 * (place % 8);
-    let word = &mut words[STRINGS_AT + place / 8];
-    *word = *word & !(0xFF << shift) | u64::from(byte) << shift;
 }
 
 /// Two counts that still add up, or that do so but for 2^32.

@@ -16,6 +16,7 @@ mod library;
 pub mod long_numbers;
 pub mod orientations;
 mod pair;
+pub mod parts;
 pub mod radii;
 mod random;
 pub mod strings;

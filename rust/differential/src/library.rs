@@ -1,11 +1,11 @@
 //! The library's side of a call, straight through its C face.
 
 use globe_sys::{
-    globe_axes, globe_builtin_orientation, globe_builtin_radii, globe_clear,
+    globe_axes, globe_builtin_orientation, globe_builtin_radii, globe_clear, globe_close,
     globe_drive_builtin_move, globe_drive_builtin_position, globe_drive_move, globe_drive_position,
-    globe_fetch, globe_fetch_string, globe_fetched, globe_load, globe_make_empty, globe_motion,
-    globe_orientation, globe_oriented, globe_position, globe_radii, globe_remove, globe_reply,
-    globe_totals,
+    globe_drop, globe_feed, globe_fetch, globe_fetch_string, globe_fetched, globe_load,
+    globe_make_empty, globe_motion, globe_open, globe_orientation, globe_oriented, globe_position,
+    globe_radii, globe_remove, globe_reply, globe_totals,
 };
 
 use crate::buffers::Buffers;
@@ -21,6 +21,10 @@ pub fn answer(call: &Call, pool: &mut [u64], buffers: &mut Buffers) -> Answer {
             Call::Load { label, text } => {
                 replied(globe_load(memory, words, label, text.as_ptr(), text.len()))
             }
+            Call::Open { label } => replied(globe_open(memory, words, label)),
+            Call::Feed { part } => replied(globe_feed(memory, words, part.as_ptr(), part.len())),
+            Call::Close => replied(globe_close(memory, words)),
+            Call::Drop => replied(globe_drop(memory, words)),
             Call::Remove { label } => replied(globe_remove(memory, words, label)),
             Call::Clear => replied(globe_clear(memory, words)),
             Call::Fetch { name, room } => {

@@ -2,6 +2,7 @@
 
 use std::ops::Range;
 
+use twin::layout::{Held, OPEN};
 use twin::limits::{STRING_BYTES, VALUES};
 
 use crate::buffers::Buffers;
@@ -66,7 +67,8 @@ impl Pair {
     }
 
     /// Makes a call on both sides. It fails unless the answers are equal, and so are both memories
-    /// and buffers to their last bits, and unless a refusal and a question leave what they should.
+    /// and buffers to their last bits, and unless a refusal and a question leave what they should: a
+    /// refused closing all but whether a text is open.
     pub fn ask(&mut self, call: &Call) -> Answer {
         self.library_buffers.prepare(call);
         self.twin_buffers.prepare(call);
@@ -83,6 +85,9 @@ impl Pair {
         assert_eq!(answer, expected, "the library and the twin differ: {call}");
         if self.library != self.twin {
             self.fail(call, &self.twin, "the library's memory is not the twin's");
+        }
+        if answer.number != 0 && call.ends_open_text(answer.number) {
+            self.before[GUARD + OPEN] = 0;
         }
         if (answer.number != 0 || !call.writes()) && self.library != self.before {
             self.fail(call, &self.before, "memory changed that should be left");
@@ -108,4 +113,18 @@ impl Pair {
             wanted[place]
         );
     }
+}
+
+/// The words that the held texts of a pool have in use, and the bytes of their strings.
+pub fn in_use(pool: &[u64]) -> (Vec<u64>, Vec<u8>) {
+    let held = Held::of(pool).expect("a pool that was never damaged");
+    let areas = [
+        held.texts,
+        held.heads,
+        held.names.as_flattened(),
+        held.values,
+    ];
+    let strings = &held.strings;
+    let bytes = (0..strings.length).map(|place| strings.byte(place));
+    (areas.concat(), bytes.collect())
 }

@@ -14,24 +14,33 @@ use crate::text_parts::{delimiter, faulty_line, note, statement, TOKENS};
 /// Loads so many texts and tells how they were answered.
 pub fn run(random: &mut Random, texts: usize) -> Tally {
     let mut tally = Tally::default();
-    let pools = [
-        pool_of(random, &[]),
-        pool_of(random, &vec![String::new(); TEXTS - 1]),
-        pool_of(random, &vec![String::new(); TEXTS]),
-        pool_of(random, &[statements(STATEMENTS - 3)]),
-        pool_of(random, &[values(VALUES - 5)]),
-        pool_of(random, &[strings(STRING_ROOM - 20)]),
-    ];
+    let pools = pools(random);
     let mut pair = Pair::new(&pools[0]);
     for _ in 0..texts {
-        let place = random.one(&[0, 0, 0, 0, 0, 0, 1, 2, 3, 4, 5]);
-        pair.set(&pools[place]);
+        pair.set(one_pool(&pools, random));
         let text = text(random);
         // Held labels count up from 0, so this one is held now and then.
         let label = if random.once_in(50) { 0 } else { 1000 };
         tally.add(pair.ask(&Call::Load { label, text: &text }).number);
     }
     tally
+}
+
+/// An empty pool, and pools that have each limit near or reached.
+pub fn pools(random: &mut Random) -> [Vec<u64>; 6] {
+    [
+        pool_of(random, &[]),
+        pool_of(random, &vec![String::new(); TEXTS - 1]),
+        pool_of(random, &vec![String::new(); TEXTS]),
+        pool_of(random, &[statements(STATEMENTS - 3)]),
+        pool_of(random, &[values(VALUES - 5)]),
+        pool_of(random, &[strings(STRING_ROOM - 20)]),
+    ]
+}
+
+/// One of these pools, mostly the empty one.
+pub fn one_pool<'a>(pools: &'a [Vec<u64>; 6], random: &mut Random) -> &'a [u64] {
+    &pools[random.one(&[0, 0, 0, 0, 0, 0, 1, 2, 3, 4, 5])]
 }
 
 /// A pool of texts labelled from 0 on, in memory that held something else before.

@@ -3,6 +3,7 @@
 use twin::answers::{orientation, radii};
 use twin::builtin::{builtin_orientation, builtin_radii};
 use twin::drive::{motion, position, Motion, Source};
+use twin::parts::{close, drop, feed, open};
 use twin::pool::{clear, fetch, fetch_string, load, make_empty, remove, totals};
 use twin::refusal::{Refusal, Refused};
 use twin::rotation::Orientation;
@@ -15,6 +16,10 @@ pub fn answer(call: &Call, pool: &mut [u64], buffers: &mut Buffers) -> Answer {
     match *call {
         Call::MakeEmpty => answered(make_empty(pool), |()| Answer::default()),
         Call::Load { label, text } => answered(load(pool, label, text), |()| Answer::default()),
+        Call::Open { label } => answered(open(pool, label), |()| Answer::default()),
+        Call::Feed { part } => answered(feed(pool, part), |()| Answer::default()),
+        Call::Close => answered(close(pool), |()| Answer::default()),
+        Call::Drop => answered(drop(pool), |()| Answer::default()),
         Call::Remove { label } => answered(remove(pool, label), |()| Answer::default()),
         Call::Clear => answered(clear(pool), |()| Answer::default()),
         Call::Fetch { name, room } => {

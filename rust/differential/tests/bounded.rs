@@ -5,7 +5,7 @@ use std::io::{self, Write};
 use std::path::Path;
 
 use differential::{
-    damage, decimals, degrees, drive, histories, kernels, long_numbers, orientations, radii,
+    damage, decimals, degrees, drive, histories, kernels, long_numbers, orientations, parts, radii,
     strings, texts, Random, Tally,
 };
 
@@ -34,8 +34,36 @@ fn generated_texts() {
 fn call_histories() {
     let tally = histories::run(&mut Random::new(SEED), 20_000);
     report("calls of 20000 histories", &tally);
-    tally.expect((0..=2).chain(7..=14).chain([16, 24]).chain(PLACED), LEAST);
+    tally.expect(
+        (0..=2).chain(7..=14).chain([16, 22, 24]).chain(PLACED),
+        LEAST,
+    );
     tally.expect([8, 13, 14, 16], LEAST_AT_HOME);
+}
+
+/// How much is fed in parts; each text makes hundreds of calls, so that a little goes a long way.
+const PARTS_VOLUME: usize = 1;
+
+#[test]
+fn texts_cut_at_every_byte() {
+    let tally = parts::run_cuts(&mut Random::new(SEED), 60 * PARTS_VOLUME);
+    report("texts cut at every byte", &tally);
+    tally.expect([0, 3], 1);
+}
+
+#[test]
+fn texts_in_parts() {
+    let tally = parts::run(&mut Random::new(SEED), 4_000 * PARTS_VOLUME);
+    report("calls on texts in parts", &tally);
+    tally.expect([0, 22].into_iter().chain(PLACED), 30);
+    tally.expect([7], LEAST);
+}
+
+#[test]
+fn texts_of_megabytes() {
+    let tally = parts::run_long(&mut Random::new(SEED), 12 * PARTS_VOLUME);
+    report("texts of megabytes", &tally);
+    tally.expect([0, 2, 3], 1);
 }
 
 #[test]

@@ -7,8 +7,9 @@
 pub const ARCHIVE: &str = env!("GLOBE_ARCHIVE");
 
 /// The limits of the header.
-pub const GLOBE_POOL_WORDS: usize = 6676;
+pub const GLOBE_POOL_WORDS: usize = 6707;
 pub const GLOBE_TEXT_BYTES: usize = 65536;
+pub const GLOBE_PARTS_BYTES: usize = 4194304;
 pub const GLOBE_VALUES: usize = 3072;
 pub const GLOBE_STRING: usize = 60;
 
@@ -34,6 +35,7 @@ pub const GLOBE_NO_OPERATOR: u32 = 18;
 pub const GLOBE_BAD_VALUE: u32 = 19;
 pub const GLOBE_OPEN_LIST: u32 = 20;
 pub const GLOBE_REST_OF_LINE: u32 = 21;
+pub const GLOBE_TEXT_OPEN: u32 = 22;
 pub const GLOBE_BAD_DEGREE: u32 = 23;
 pub const GLOBE_BAD_RADIUS: u32 = 24;
 pub const GLOBE_BAD_RING: u32 = 25;
@@ -135,6 +137,10 @@ unsafe extern "C" {
         text: *const u8,
         bytes: usize,
     ) -> globe_reply;
+    pub fn globe_open(pool: *mut u64, words: usize, label: u32) -> globe_reply;
+    pub fn globe_feed(pool: *mut u64, words: usize, part: *const u8, bytes: usize) -> globe_reply;
+    pub fn globe_close(pool: *mut u64, words: usize) -> globe_reply;
+    pub fn globe_drop(pool: *mut u64, words: usize) -> globe_reply;
     pub fn globe_remove(pool: *mut u64, words: usize, label: u32) -> globe_reply;
     pub fn globe_clear(pool: *mut u64, words: usize) -> globe_reply;
     pub fn globe_fetch(

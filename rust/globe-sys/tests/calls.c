@@ -28,6 +28,9 @@ static const char *const FAULTY[] = {
     "\\begindata\nX = ( 1\n) 2",
 };
 static const char MIXING[] = "\\begindata\nBODY899_PM += 'a caption'\n";
+/* A text in two parts, cut within a delimiter, and one that is faulty at its end. */
+static const char *const PARTS[] = {"note\n \\begin", "data\r\nPART = ( 1\n2 )"};
+static const char OPEN_LIST[] = "\\begindata\nX = ( 1 \r\n";
 static const char NAME[] = "BODY899_RADII";
 
 static void print_doubles(size_t count, const double *values) {
@@ -124,6 +127,44 @@ static void string_calls(void) {
     print_reply(globe_remove(pool, GLOBE_POOL_WORDS, 9));
 }
 
+/* Feeds the open text with a part that ends in a 0. */
+static void print_feed(const char *part) {
+    print_reply(globe_feed(pool, GLOBE_POOL_WORDS, (const uint8_t *)part, strlen(part)));
+}
+
+static void part_calls(void) {
+    const size_t words = globe_pool_words();
+
+    print_reply(globe_feed(pool, words, NULL, 0));
+    print_reply(globe_close(pool, words));
+    print_reply(globe_drop(pool, words));
+    print_reply(globe_open(pool, words, 4294967295u));
+    print_reply(globe_open(pool, words, 3));
+    print_reply(globe_open(pool, words, 3));
+    print_reply(globe_load(pool, words, 4, NULL, 0));
+    print_reply(globe_remove(pool, words, 7));
+    print_reply(globe_clear(pool, words));
+    print_feed(PARTS[0]);
+    print_reply(globe_feed(pool, words, NULL, 0));
+    print_feed(PARTS[1]);
+    print_counts(globe_totals(pool, words));
+    print_reply(globe_close(pool, words));
+    print_counts(globe_totals(pool, words));
+    print_reply(globe_open(pool, words, 4));
+    print_feed(OPEN_LIST);
+    print_reply(globe_close(pool, words));
+    print_reply(globe_close(pool, words));
+    print_reply(globe_open(pool, words, 4));
+    print_feed(PARTS[1]);
+    print_reply(globe_drop(pool, words));
+    print_reply(globe_drop(pool, words));
+    print_reply(globe_open(NULL, 0, 4));
+    print_reply(globe_feed(NULL, 0, NULL, 0));
+    print_reply(globe_close(NULL, 0));
+    print_reply(globe_drop(NULL, 0));
+    print_reply(globe_remove(pool, words, 3));
+}
+
 static void drive_calls(void) {
     print_position(globe_drive_position(pool, GLOBE_POOL_WORDS, 899, 0.0, 360));
     print_position(globe_drive_position(pool, GLOBE_POOL_WORDS, 899, 0.0, 4097));
@@ -177,6 +218,7 @@ int main(void) {
     print_fetched(globe_fetch(pool, words, name, sizeof NAME - 1, NULL, 0), buffer, 4);
     print_counts(globe_totals(pool, words));
     string_calls();
+    part_calls();
 
     print_reply(globe_remove(pool, words, 8));
     print_reply(globe_remove(pool, words, 7));

@@ -30,6 +30,9 @@ const FAULTY: [(&[u8], [u32; 3]); 7] = [
     (b"\\begindata\nX = ( 1\n) 2", [21, 3, 3]),
 ];
 const MIXING: &[u8] = b"\\begindata\nBODY899_PM += 'a caption'\n";
+/// A text in two parts, cut within a delimiter, and one that is faulty at its end.
+const PARTS: [&[u8]; 2] = [b"note\n \\begin", b"data\r\nPART = ( 1\n2 )"];
+const OPEN_LIST: &[u8] = b"\\begindata\nX = ( 1 \r\n";
 const NAME: &[u8] = b"BODY899_RADII";
 const CAPTION: &[u8] = b"CAPTION";
 
@@ -171,6 +174,47 @@ unsafe fn string_calls(lines: &mut Lines, pool: *mut u64) {
     }
 }
 
+/// The calls about parts of `calls.c`, in its order.
+///
+/// # Safety
+///
+/// The pool is one of as many words as the library wants.
+unsafe fn part_calls(lines: &mut Lines, pool: *mut u64) {
+    let words = globe_pool_words();
+    // Safety: as above, and no two slices overlap.
+    unsafe {
+        let feed = |part: &[u8]| globe_feed(pool, words, part.as_ptr(), part.len());
+        lines.reply(globe_feed(pool, words, null(), 0));
+        lines.reply(globe_close(pool, words));
+        lines.reply(globe_drop(pool, words));
+        lines.reply(globe_open(pool, words, u32::MAX));
+        lines.reply(globe_open(pool, words, 3));
+        lines.reply(globe_open(pool, words, 3));
+        lines.reply(globe_load(pool, words, 4, null(), 0));
+        lines.reply(globe_remove(pool, words, 7));
+        lines.reply(globe_clear(pool, words));
+        lines.reply(feed(PARTS[0]));
+        lines.reply(globe_feed(pool, words, null(), 0));
+        lines.reply(feed(PARTS[1]));
+        lines.counts(globe_totals(pool, words));
+        lines.reply(globe_close(pool, words));
+        lines.counts(globe_totals(pool, words));
+        lines.reply(globe_open(pool, words, 4));
+        lines.reply(feed(OPEN_LIST));
+        lines.reply(globe_close(pool, words));
+        lines.reply(globe_close(pool, words));
+        lines.reply(globe_open(pool, words, 4));
+        lines.reply(feed(PARTS[1]));
+        lines.reply(globe_drop(pool, words));
+        lines.reply(globe_drop(pool, words));
+        lines.reply(globe_open(null_mut(), 0, 4));
+        lines.reply(globe_feed(null_mut(), 0, null(), 0));
+        lines.reply(globe_close(null_mut(), 0));
+        lines.reply(globe_drop(null_mut(), 0));
+        lines.reply(globe_remove(pool, words, 3));
+    }
+}
+
 /// The calls of `calls.c`, in its order.
 fn calls() -> String {
     let mut lines = Lines::default();
@@ -217,6 +261,7 @@ fn calls() -> String {
         );
         lines.counts(globe_totals(pool, words));
         string_calls(&mut lines, pool);
+        part_calls(&mut lines, pool);
 
         lines.reply(globe_remove(pool, words, 8));
         lines.reply(globe_remove(pool, words, 7));
@@ -228,6 +273,10 @@ fn calls() -> String {
     lines.add("", &[], &doubles);
     lines.0
 }
+
+/// How many answers there are, and which of them is the closing of a faulty text.
+const ANSWERS: usize = 96;
+const REFUSED_CLOSING: usize = 80;
 
 #[test]
 fn both_faces_answer_alike() {
@@ -241,7 +290,7 @@ fn numbers_of_the_answers() {
     let numbers: Vec<&str> = lines
         .lines()
         .filter_map(|line| line.split(' ').nth(1))
-        .take(68)
+        .take(ANSWERS)
         .collect();
     let expected = [
         "15", "15", "0", "0", "1", // faulty texts
@@ -252,7 +301,9 @@ fn numbers_of_the_answers() {
         // empty slices
         "15", "15", "0", "13", "14", "0", // strings
         "0", "0", "0", "14", "13", "13", "13", "16", "13", "13", "16", "0", "13", "15", "0", "16",
-        "0", // removals
+        "0", // parts
+        "8", "8", "8", "1", "0", "22", "22", "22", "22", "0", "0", "0", "0", "0", "0", "0", "0",
+        "20", "8", "0", "0", "0", "8", "15", "15", "15", "15", "0", // removals
         "8", "0", "0", "0", "0",
     ];
     assert_eq!(numbers, expected);
@@ -262,11 +313,13 @@ fn numbers_of_the_answers() {
 fn places_of_the_answers() {
     let lines = calls();
     let faulty = 5..5 + FAULTY.len();
-    for (answer, line) in lines.lines().take(68).enumerate() {
+    for (answer, line) in lines.lines().take(ANSWERS).enumerate() {
         let told: Vec<&str> = line.split(' ').skip(1).take(3).collect();
         if faulty.contains(&answer) {
             let (_, expected) = FAULTY[answer - faulty.start];
             assert_eq!(told, expected.map(|number| number.to_string()));
+        } else if answer == REFUSED_CLOSING {
+            assert_eq!(told, ["20", "2", "9"]);
         } else {
             assert_eq!(told[1..], ["0", "0"], "{line}");
         }

@@ -1,4 +1,5 @@
-//! The examples in C compile without a warning, and print what is kept beside them.
+//! The examples in C compile without a warning; two print what is kept beside them, the third loads
+//! and refuses as the first one does.
 
 mod common;
 
@@ -43,6 +44,30 @@ fn the_example_prints_what_is_kept() {
     let negative = common::run(&program, &["examples/kernels/moon.tpc", "-31"]);
     assert!(!negative.status.success());
     assert!(common::written(&negative).contains("refused 10 (UNKNOWN BODY)"));
+}
+
+#[test]
+fn the_feeding_example_tells_its_progress() {
+    let program = common::compile(&common::top().join("examples/feeding.c"));
+    let output = common::run(&program, &[]);
+    assert!(output.status.success());
+    let loaded = "examples/kernels/planets.tpc: texts 1, statements 34, values 55\n";
+    assert_eq!(common::written(&output), loaded);
+    let progress = String::from_utf8_lossy(&output.stderr).into_owned();
+    assert!(progress.starts_with("\r512 bytes read, texts held 0\r1024 bytes read"));
+    assert!(progress.ends_with("\r2336 bytes read, texts held 0\n"));
+
+    let refused = common::run(&program, &["examples/kernels/mars-example.tpc"]);
+    assert!(!refused.status.success());
+    let shown = common::written(&refused);
+    assert!(shown.contains("refused 6 at line 485, column 27\n"));
+    let lines: Vec<&str> = shown.lines().rev().take(2).collect();
+    assert_eq!(lines[0].find('^'), Some(26));
+    assert!(lines[1][26..].starts_with("6.6443009930565219D-09"));
+
+    let unreadable = common::run(&program, &["examples/kernels/nowhere.tpc"]);
+    assert!(!unreadable.status.success());
+    assert!(String::from_utf8_lossy(&unreadable.stderr).contains("nowhere.tpc"));
 }
 
 /// The shell of the drive's example goes once round in a day, in single short moves.

@@ -39,14 +39,14 @@ fn types_and_constants_are_the_header_s() {
     let mut motion = String::new();
     lay_out!(motion, globe_motion: number line column target r#move);
     lines += &motion.replace("r#", "");
-    number!(lines: GLOBE_POOL_WORDS GLOBE_TEXT_BYTES GLOBE_VALUES GLOBE_STRING);
+    number!(lines: GLOBE_POOL_WORDS GLOBE_TEXT_BYTES GLOBE_PARTS_BYTES GLOBE_VALUES GLOBE_STRING);
     number!(lines: GLOBE_OK GLOBE_LABEL_HELD GLOBE_TEXT_TOO_LONG GLOBE_LINE_TOO_LONG);
     number!(lines: GLOBE_BAD_BYTE GLOBE_NUMBER GLOBE_NO_ROOM GLOBE_NOT_HELD);
     number!(lines: GLOBE_EPOCH GLOBE_UNKNOWN_BODY GLOBE_INCOMPLETE GLOBE_WRONG_COUNT);
     number!(lines: GLOBE_NO_VARIABLE GLOBE_SHORT_BUFFER GLOBE_DAMAGED_POOL GLOBE_MIXED_KIND);
     number!(lines: GLOBE_BAD_NAME GLOBE_NO_OPERATOR GLOBE_BAD_VALUE GLOBE_OPEN_LIST);
-    number!(lines: GLOBE_REST_OF_LINE GLOBE_BAD_DEGREE GLOBE_BAD_RADIUS GLOBE_BAD_RING);
-    number!(lines: GLOBE_BAD_POSITION);
+    number!(lines: GLOBE_REST_OF_LINE GLOBE_TEXT_OPEN GLOBE_BAD_DEGREE GLOBE_BAD_RADIUS);
+    number!(lines: GLOBE_BAD_RING GLOBE_BAD_POSITION);
 
     let program = common::compile(Path::new("tests/layout.c"));
     assert_eq!(lines, common::written(&common::run(&program, &[])));

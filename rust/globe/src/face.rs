@@ -27,6 +27,31 @@ pub fn load(pool: &mut [u64], label: u32, text: &[u8]) -> Result<(), Refused> {
     accepted(reply.number, reply.line, reply.column)
 }
 
+pub fn open(pool: &mut [u64], label: u32) -> Result<(), Refused> {
+    // Safety: see above.
+    let reply = unsafe { sys::globe_open(pool.as_mut_ptr(), pool.len(), label) };
+    accepted(reply.number, reply.line, reply.column)
+}
+
+pub fn feed(pool: &mut [u64], part: &[u8]) -> Result<(), Refused> {
+    let (words, bytes) = (pool.len(), part.len());
+    // Safety: see above.
+    let reply = unsafe { sys::globe_feed(pool.as_mut_ptr(), words, part.as_ptr(), bytes) };
+    accepted(reply.number, reply.line, reply.column)
+}
+
+pub fn close(pool: &mut [u64]) -> Result<(), Refused> {
+    // Safety: see above.
+    let reply = unsafe { sys::globe_close(pool.as_mut_ptr(), pool.len()) };
+    accepted(reply.number, reply.line, reply.column)
+}
+
+pub fn drop(pool: &mut [u64]) -> Result<(), Refused> {
+    // Safety: see above.
+    let reply = unsafe { sys::globe_drop(pool.as_mut_ptr(), pool.len()) };
+    accepted(reply.number, reply.line, reply.column)
+}
+
 pub fn remove(pool: &mut [u64], label: u32) -> Result<(), Refused> {
     // Safety: see above.
     let reply = unsafe { sys::globe_remove(pool.as_mut_ptr(), pool.len(), label) };

@@ -28,6 +28,19 @@
 //! # Ok::<(), globe::Refused>(())
 //! ```
 //!
+//! A text may come in parts, cut anywhere; a file is loaded a block at a time by
+//! [`Pool::load_from`]:
+//!
+//! ```
+//! let mut pool = globe::Pool::new();
+//! let mut text = pool.open(1)?;
+//! text.feed("\\begindata\nBODY499_RADII = ( 3397, 33");
+//! text.feed("97, 3375 )\n");
+//! text.close()?;
+//! assert_eq!(pool.radii(499)?, [3397.0, 3397.0, 3375.0]);
+//! # Ok::<(), globe::Refused>(())
+//! ```
+//!
 //! A text that is refused says what is faulty, at which line and column, and what to do:
 //!
 //! ```
@@ -53,15 +66,23 @@
 #![deny(unsafe_code)]
 
 extern crate alloc;
+#[cfg(feature = "std")]
+extern crate std;
 
 mod answer;
 mod face;
+mod parts;
 mod pool;
+#[cfg(feature = "std")]
+mod reader;
 mod refusal;
 mod ring;
 
 pub use answer::{Motion, Orientation, Totals};
+pub use parts::OpenText;
 pub use pool::Pool;
+#[cfg(feature = "std")]
+pub use reader::NotLoaded;
 pub use refusal::{Refusal, Refused};
 pub use ring::{Ring, Source};
 

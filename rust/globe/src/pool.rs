@@ -5,11 +5,12 @@ use alloc::vec;
 
 use crate::answer::{Orientation, Totals};
 use crate::face;
+use crate::parts::OpenText;
 use crate::refusal::Refused;
 
 /// Texts, each under a label, and what they say together. A pool holds up to 16 texts with 512
 /// statements and 3,072 values, numbers or strings, whose strings have up to 8,192 bytes. A refused
-/// call changes nothing.
+/// call changes nothing, but that a refused [`OpenText::close`] ends the open text.
 ///
 /// Every call asks first whether the pool is damaged ([`Refusal::DamagedPool`]); that happens only
 /// to memory that comes in by [`Pool::from_words`].
@@ -17,7 +18,7 @@ use crate::refusal::Refused;
 /// [`Refusal::DamagedPool`]: crate::Refusal::DamagedPool
 #[derive(Clone, Debug)]
 pub struct Pool {
-    words: Box<[u64]>,
+    pub(crate) words: Box<[u64]>,
 }
 
 impl Pool {
@@ -59,13 +60,13 @@ impl Pool {
     /// The memory, for keeping it elsewhere.
     ///
     /// ```
-    /// assert_eq!(size_of_val(globe::Pool::new().words()), 53_408);
+    /// assert_eq!(size_of_val(globe::Pool::new().words()), 53_656);
     /// ```
     pub fn words(&self) -> &[u64] {
         &self.words
     }
 
-    /// Makes the memory an empty pool, whatever it holds.
+    /// Makes the memory an empty pool, whatever it holds; a text that is open is dropped.
     ///
     /// Refused: [`DamagedPool`](crate::Refusal::DamagedPool), for memory of another size alone.
     ///
@@ -85,9 +86,10 @@ impl Pool {
     /// Loads a text under a label. Its statements come after those of all texts held.
     ///
     /// Refused, in this order: [`DamagedPool`](crate::Refusal::DamagedPool),
-    /// [`LabelHeld`](crate::Refusal::LabelHeld), [`TextTooLong`](crate::Refusal::TextTooLong); at
-    /// the first faulty line [`LineTooLong`](crate::Refusal::LineTooLong),
-    /// [`BadByte`](crate::Refusal::BadByte), then whichever of
+    /// [`TextOpen`](crate::Refusal::TextOpen), [`LabelHeld`](crate::Refusal::LabelHeld),
+    /// [`TextTooLong`](crate::Refusal::TextTooLong); at the first faulty line
+    /// [`LineTooLong`](crate::Refusal::LineTooLong), [`BadByte`](crate::Refusal::BadByte), then
+    /// whichever of
     /// [`BadName`](crate::Refusal::BadName), [`NoOperator`](crate::Refusal::NoOperator),
     /// [`BadValue`](crate::Refusal::BadValue), [`OpenList`](crate::Refusal::OpenList),
     /// [`RestOfLine`](crate::Refusal::RestOfLine) and [`Number`](crate::Refusal::Number) starts
@@ -108,10 +110,56 @@ impl Pool {
         face::load(&mut self.words, label, text.as_ref())
     }
 
+    /// Opens a text under a label, to be fed in parts: a text that comes block by block, or that
+    /// is too long for [`Pool::load`]. As long as it is open, what is held stays as it is.
+    ///
+    /// Refused, in this order: [`DamagedPool`](crate::Refusal::DamagedPool),
+    /// [`TextOpen`](crate::Refusal::TextOpen), [`LabelHeld`](crate::Refusal::LabelHeld).
+    ///
+    /// ```
+    /// let mut pool = globe::Pool::new();
+    /// let mut text = pool.open(1)?;
+    /// text.feed("\\begin");
+    /// text.feed("data\nX = 1");
+    /// text.close()?;
+    /// assert_eq!(pool.fetch("X", &mut [0.0])?, [1.0]);
+    /// assert!(pool.open(1).is_err());
+    /// # Ok::<(), globe::Refused>(())
+    /// ```
+    pub fn open(&mut self, label: u32) -> Result<OpenText<'_>, Refused> {
+        face::open(&mut self.words, label)?;
+        Ok(OpenText::of(self))
+    }
+
+    /// The text that is open in memory that was kept elsewhere while it was fed.
+    ///
+    /// Refused, in this order: [`DamagedPool`](crate::Refusal::DamagedPool),
+    /// [`NotHeld`](crate::Refusal::NotHeld), if no text is open.
+    ///
+    /// ```
+    /// let mut pool = globe::Pool::new();
+    /// let mut text = pool.open(1)?;
+    /// text.feed("\\begindata\nX");
+    /// let kept: Box<[u64]> = text.pool().words().into();
+    ///
+    /// let mut again = globe::Pool::from_words(kept);
+    /// let mut text = again.resume()?;
+    /// text.feed(" = 1");
+    /// text.close()?;
+    /// assert_eq!(again.totals()?.statements, 1);
+    /// assert!(again.resume().is_err());
+    /// # Ok::<(), globe::Refused>(())
+    /// ```
+    pub fn resume(&mut self) -> Result<OpenText<'_>, Refused> {
+        // A part of no bytes tells whether a text is open.
+        face::feed(&mut self.words, &[])?;
+        Ok(OpenText::of(self))
+    }
+
     /// Takes out the text under a label. What it had replaced is there again.
     ///
     /// Refused, in this order: [`DamagedPool`](crate::Refusal::DamagedPool),
-    /// [`NotHeld`](crate::Refusal::NotHeld).
+    /// [`TextOpen`](crate::Refusal::TextOpen), [`NotHeld`](crate::Refusal::NotHeld).
     ///
     /// ```
     /// let mut pool = globe::Pool::new();
@@ -128,7 +176,8 @@ impl Pool {
 
     /// Takes out all texts.
     ///
-    /// Refused: [`DamagedPool`](crate::Refusal::DamagedPool).
+    /// Refused, in this order: [`DamagedPool`](crate::Refusal::DamagedPool),
+    /// [`TextOpen`](crate::Refusal::TextOpen).
     ///
     /// ```
     /// let mut pool = globe::Pool::new();

@@ -27,7 +27,7 @@ pub enum Refusal {
     Number,
     /// 7: the pool has no room for the text.
     NoRoom,
-    /// 8: no text is held under the label.
+    /// 8: no text is held under the label, or none is open.
     NotHeld,
     /// 9: the epoch is not finite, or too far from J2000.
     Epoch,
@@ -55,6 +55,8 @@ pub enum Refusal {
     OpenList,
     /// 21: something follows the statement on its line.
     RestOfLine,
+    /// 22: a text is open.
+    TextOpen,
     /// 23: the degree of a system's angles is not 1, 2 or 3.
     BadDegree,
     /// 24: a radius from a pool is not greater than 0.
@@ -66,8 +68,8 @@ pub enum Refusal {
 }
 
 impl Refusal {
-    /// All refusals, in the order of their numbers. None has the number 5 or 22.
-    pub const ALL: [Refusal; 24] = [
+    /// All refusals, in the order of their numbers. None has the number 5.
+    pub const ALL: [Refusal; 25] = [
         Refusal::LabelHeld,
         Refusal::TextTooLong,
         Refusal::LineTooLong,
@@ -88,6 +90,7 @@ impl Refusal {
         Refusal::BadValue,
         Refusal::OpenList,
         Refusal::RestOfLine,
+        Refusal::TextOpen,
         Refusal::BadDegree,
         Refusal::BadRadius,
         Refusal::BadRing,
@@ -117,6 +120,7 @@ impl Refusal {
             Refusal::BadValue => sys::GLOBE_BAD_VALUE,
             Refusal::OpenList => sys::GLOBE_OPEN_LIST,
             Refusal::RestOfLine => sys::GLOBE_REST_OF_LINE,
+            Refusal::TextOpen => sys::GLOBE_TEXT_OPEN,
             Refusal::BadDegree => sys::GLOBE_BAD_DEGREE,
             Refusal::BadRadius => sys::GLOBE_BAD_RADIUS,
             Refusal::BadRing => sys::GLOBE_BAD_RING,
@@ -147,6 +151,7 @@ impl Refusal {
             Refusal::BadValue => "BAD VALUE",
             Refusal::OpenList => "OPEN LIST",
             Refusal::RestOfLine => "REST OF LINE",
+            Refusal::TextOpen => "TEXT OPEN",
             Refusal::BadDegree => "BAD DEGREE",
             Refusal::BadRadius => "BAD RADIUS",
             Refusal::BadRing => "BAD RING",
@@ -161,8 +166,8 @@ impl Refusal {
                  one under another label"
             }
             Refusal::TextTooLong => {
-                "the text is longer than 65,536 bytes; split it into several texts, or shorten \
-                 its comments"
+                "the text is longer than 65,536 bytes, or than 4,194,304 where it is fed in parts; \
+                 feed it in parts, split it into several texts, or shorten its comments"
             }
             Refusal::LineTooLong => {
                 "the line is in a data section, or opens a section, and is longer than 132 bytes; \
@@ -185,8 +190,8 @@ impl Refusal {
                  shorten this one"
             }
             Refusal::NotHeld => {
-                "no text is held under this label; it was never loaded, its load was refused, or \
-                 it is removed already"
+                "no text is held under this label, or none is open; it was never loaded or opened, \
+                 its load was refused, or it is removed, closed or dropped already"
             }
             Refusal::Epoch => {
                 "the epoch is not a finite number of seconds up to 157,788,000,000 before or \
@@ -251,6 +256,10 @@ impl Refusal {
             Refusal::RestOfLine => {
                 "the statement is complete before this; begin a new line for the next statement, \
                  put several values between ( and ), or put a comment behind \\begintext"
+            }
+            Refusal::TextOpen => {
+                "a text is open; close it or drop it first, since what is held cannot change while \
+                 it is fed"
             }
             Refusal::BadDegree => {
                 "BODYs_MAX_PHASE_DEGREE is not one number that is 1, 2 or 3, s being the hundreds \

@@ -193,6 +193,8 @@ fn of_every_call_on_a_damaged_pool() {
     let mut pool = Pool::from_words(words);
     let damaged = alone(Refusal::DamagedPool);
     assert_eq!(pool.load(1, ""), Err(damaged));
+    assert_eq!(pool.open(1).unwrap_err(), damaged);
+    assert_eq!(pool.resume().unwrap_err(), damaged);
     assert_eq!(pool.remove(1), Err(damaged));
     assert_eq!(pool.clear(), Err(damaged));
     assert_eq!(pool.fetch("X", &mut []), Err(damaged));
@@ -231,7 +233,7 @@ fn of_the_drive() {
 
 #[test]
 fn numbers_and_words() {
-    let numbers = (1..=26).filter(|number| ![5, 22].contains(number));
+    let numbers = (1..=26).filter(|number| *number != 5);
     assert!(Refusal::ALL.map(Refusal::number).into_iter().eq(numbers));
     for refusal in Refusal::ALL {
         let shown = alone(refusal).to_string();

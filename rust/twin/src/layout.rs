@@ -2,7 +2,8 @@
 //! Areas stand one after another; a pair shares a word, its first part in the upper half.
 
 use crate::limits::{
-    NAME_BYTES, STATEMENTS, STRING_BYTES, STRING_ROOM, TEXTS, VALUES, VALUE_EXPONENT,
+    KEPT_BYTES, NAME_BYTES, PARTS_BYTES, STATEMENTS, STRING_BYTES, STRING_ROOM, TEXTS, VALUES,
+    VALUE_EXPONENT,
 };
 use crate::refusal::Refusal;
 use crate::text::{is_data_byte, is_name_byte, Kind, Operator};
@@ -17,8 +18,31 @@ pub const TEXT_TOTAL: usize = 0;
 pub const STATEMENT_TOTAL: usize = 1;
 pub const VALUE_TOTAL: usize = 2;
 pub const STRING_TOTAL: usize = 3;
-pub const TEXTS_AT: usize = 4;
-pub const HEADS_AT: usize = TEXTS_AT + TEXTS;
+
+/// The words of the open text: whether there is one, what it has stored, how it goes on, and the
+/// line that is not complete.
+pub const OPEN: usize = 4;
+pub const OPEN_VALUES: usize = 5;
+pub const OPEN_STRING_BYTES: usize = 6;
+pub const WAY: usize = 7;
+pub const READER: usize = 8;
+pub const FAULT: usize = 9;
+pub const FAULT_LINE: usize = 10;
+pub const FAULT_PLACE: usize = 11;
+pub const LINES: usize = 12;
+pub const LAST_LENGTH: usize = 13;
+pub const KEPT_LENGTH: usize = 14;
+pub const CR_WAITS: usize = 15;
+pub const BYTE_COUNT: usize = 16;
+pub const KEPT_AT: usize = 17;
+
+/// The words of the kept line.
+pub const KEPT_WORDS: usize = KEPT_BYTES.div_ceil(8);
+
+/// The open text's word stands behind those of the held texts, of which there may be as many as a
+/// pool holds.
+pub const TEXTS_AT: usize = KEPT_AT + KEPT_WORDS;
+pub const HEADS_AT: usize = TEXTS_AT + TEXTS + 1;
 pub const NAMES_AT: usize = HEADS_AT + STATEMENTS;
 pub const VALUES_AT: usize = NAMES_AT + NAME_WORDS * STATEMENTS;
 pub const STRINGS_AT: usize = VALUES_AT + VALUES;
@@ -32,7 +56,67 @@ const SIZE_BITS: u64 = (1 << 63) - 1;
 /// The bits of 2^200. Sizes are ordered as their bits are, infinities and NaNs last.
 const VALUE_LIMIT: u64 = (1023 + VALUE_EXPONENT) << 52;
 
-/// The words in use of an undamaged pool.
+/// How far each area of a pool is in use.
+#[derive(Clone, Copy, Debug, Default, PartialEq, Eq)]
+pub struct Extent {
+    pub texts: usize,
+    pub statements: usize,
+    pub values: usize,
+    pub string_bytes: usize,
+}
+
+impl Extent {
+    /// What is held, as far as the totals allow.
+    fn held(pool: &[u64]) -> Option<Extent> {
+        Some(Extent {
+            texts: total(pool[TEXT_TOTAL], TEXTS)?,
+            statements: total(pool[STATEMENT_TOTAL], STATEMENTS)?,
+            values: total(pool[VALUE_TOTAL], VALUES)?,
+            string_bytes: total(pool[STRING_TOTAL], STRING_ROOM)?,
+        })
+    }
+
+    /// What is held with the open text behind it, as far as there is room for that: the limit of
+    /// texts is not asked.
+    fn with_open(self, pool: &[u64]) -> Option<Extent> {
+        let statements = u64::from(lower(pool[TEXTS_AT + self.texts]));
+        let (values, bytes) = (pool[OPEN_VALUES], pool[OPEN_STRING_BYTES]);
+        let string_bytes = total(bytes, STRING_ROOM - self.string_bytes)?;
+        Some(Extent {
+            texts: self.texts + 1,
+            statements: self.statements + total(statements, STATEMENTS - self.statements)?,
+            values: self.values + total(values, VALUES - self.values)?,
+            string_bytes: self.string_bytes + string_bytes,
+        })
+    }
+
+    /// Both together.
+    pub fn and(self, more: Extent) -> Extent {
+        Extent {
+            texts: self.texts + more.texts,
+            statements: self.statements + more.statements,
+            values: self.values + more.values,
+            string_bytes: self.string_bytes + more.string_bytes,
+        }
+    }
+
+    /// What is in use without what belongs to some of it.
+    pub fn without(self, some: Extent) -> Extent {
+        Extent {
+            texts: self.texts - some.texts,
+            statements: self.statements - some.statements,
+            values: self.values - some.values,
+            string_bytes: self.string_bytes - some.string_bytes,
+        }
+    }
+
+    /// Whether the areas have so much room, the number of texts apart.
+    pub fn fits(self) -> bool {
+        self.statements <= STATEMENTS && self.values <= VALUES && self.string_bytes <= STRING_ROOM
+    }
+}
+
+/// The words in use of an undamaged pool, those of its held texts or of its open one.
 pub struct Held<'a> {
     /// Label and number of statements, a word a text.
     pub texts: &'a [u64],
@@ -46,33 +130,57 @@ pub struct Held<'a> {
 }
 
 impl<'a> Held<'a> {
-    /// The words in use, unless the pool is damaged.
+    /// What is held, unless the pool is damaged.
     pub fn of(pool: &'a [u64]) -> Result<Held<'a>, Refusal> {
-        Held::within_limits(pool)
-            .filter(Held::is_sound)
-            .ok_or(Refusal::DamagedPool)
+        Held::undamaged(pool).ok_or(Refusal::DamagedPool)
     }
 
-    /// The words in use, as far as size and totals allow.
-    fn within_limits(pool: &[u64]) -> Option<Held<'_>> {
+    fn undamaged(pool: &'a [u64]) -> Option<Held<'a>> {
         if pool.len() != WORDS {
             return None;
         }
-        let texts = total(pool[TEXT_TOTAL], TEXTS)?;
-        let statements = total(pool[STATEMENT_TOTAL], STATEMENTS)?;
-        let values = total(pool[VALUE_TOTAL], VALUES)?;
-        let string_bytes = total(pool[STRING_TOTAL], STRING_ROOM)?;
+        let end = Extent::held(pool)?;
+        let held = Held::between(pool, Extent::default(), end);
+        let sound = held.is_sound() && (!is_open(pool) || held.goes_on(pool)?);
+        sound.then_some(held)
+    }
+
+    /// The words from where the areas have one extent to where they have another.
+    fn between(pool: &'a [u64], from: Extent, to: Extent) -> Held<'a> {
         let (names, _) = pool[NAMES_AT..VALUES_AT].as_chunks();
-        Some(Held {
-            texts: &pool[TEXTS_AT..][..texts],
-            heads: &pool[HEADS_AT..][..statements],
-            names: &names[..statements],
-            values: &pool[VALUES_AT..][..values],
+        Held {
+            texts: &pool[TEXTS_AT..][from.texts..to.texts],
+            heads: &pool[HEADS_AT..][from.statements..to.statements],
+            names: &names[from.statements..to.statements],
+            values: &pool[VALUES_AT..][from.values..to.values],
             strings: PackedBytes {
                 words: &pool[STRINGS_AT..],
-                length: string_bytes,
+                start: from.string_bytes,
+                length: to.string_bytes - from.string_bytes,
             },
-        })
+        }
+    }
+
+    /// How far the areas are in use.
+    pub fn extent(&self) -> Extent {
+        Extent {
+            texts: self.texts.len(),
+            statements: self.heads.len(),
+            values: self.values.len(),
+            string_bytes: self.strings.length,
+        }
+    }
+
+    /// Whether an open text may stand behind what is held, if there is room for it.
+    fn goes_on(&self, pool: &[u64]) -> Option<bool> {
+        let held = self.extent();
+        let open = Held::between(pool, held, held.with_open(pool)?);
+        Some(
+            open.is_sound()
+                && self.place(upper(open.texts[0])).is_none()
+                && pool[KEPT_LENGTH] <= KEPT_BYTES as u64
+                && pool[BYTE_COUNT] <= PARTS_BYTES as u64 + 1,
+        )
     }
 
     /// All conditions but those on size and totals.
@@ -139,24 +247,45 @@ impl<'a> Held<'a> {
     }
 }
 
+/// Whether a text is open in a pool of the right size.
+pub fn is_open(pool: &[u64]) -> bool {
+    pool[OPEN] != 0
+}
+
 /// Bytes in words, eight to a word, the first highest.
 pub struct PackedBytes<'a> {
     words: &'a [u64],
+    /// How many stand before those in use.
+    start: usize,
     /// How many of them are in use.
     pub length: usize,
 }
 
 impl PackedBytes<'_> {
     pub fn byte(&self, place: usize) -> u8 {
-        (self.words[place / 8] >> byte_shift(place)) as u8
+        packed_byte(self.words, self.start + place)
     }
 
     /// Whether all bytes in use may stand in a string.
     fn are_legal(&self) -> bool {
-        let whole = self.length / 8;
-        are_data_words(&self.words[..whole])
-            && (8 * whole..self.length).all(|place| is_data_byte(self.byte(place)))
+        let end = self.start + self.length;
+        let whole = self.start.div_ceil(8)..end / 8;
+        if whole.is_empty() {
+            return self.legal_between(self.start, end);
+        }
+        self.legal_between(self.start, 8 * whole.start)
+            && are_data_words(&self.words[whole.clone()])
+            && self.legal_between(8 * whole.end, end)
     }
+
+    fn legal_between(&self, from: usize, to: usize) -> bool {
+        (from..to).all(|place| is_data_byte(packed_byte(self.words, place)))
+    }
+}
+
+/// One of the bytes in some words.
+pub fn packed_byte(words: &[u64], place: usize) -> u8 {
+    (words[place / 8] >> byte_shift(place)) as u8
 }
 
 /// Whether all bytes of some words may stand in a string. Nothing is left early, so that many
@@ -176,10 +305,10 @@ fn byte_shift(place: usize) -> usize {
     56 - 8 * (place % 8)
 }
 
-/// Writes one byte of a pool's strings; the others of its word stay.
-pub fn put_string_byte(pool: &mut [u64], place: usize, byte: u8) {
+/// Writes one of the bytes in some words; the others of its word stay.
+pub fn put_byte(words: &mut [u64], place: usize, byte: u8) {
     let shift = byte_shift(place);
-    let word = &mut pool[STRINGS_AT + place / 8];
+    let word = &mut words[place / 8];
     *word = *word & !(0xFF << shift) | u64::from(byte) << shift;
 }
 
@@ -283,6 +412,11 @@ pub fn head(operator: Operator) -> u64 {
         Operator::Direct => pair(0, 0),
         Operator::Append => pair(APPENDS, 0),
     }
+}
+
+/// A statement's head before its only value, a number, was counted.
+pub fn without_value(head: u64) -> u64 {
+    head - 1
 }
 
 /// A head with one value more.

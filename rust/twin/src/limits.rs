@@ -1,11 +1,16 @@
 //! The limits of document 01, each under its name; document 02 has the one of lines in K1,
-//! those of strings in K2, that of whole numbers in K4, those of angles in K8 and those of rings in K13.
+//! those of strings in K2, that of whole numbers in K4, those of parts in K5, those of angles in K8
+//! and those of rings in K13.
 
-/// The bytes of a text that can be loaded.
+/// The bytes of a text that can be loaded, and of one that is fed in parts.
 pub const TEXT_BYTES: usize = 65_536;
+pub const PARTS_BYTES: usize = 4_194_304;
 
 /// The bytes of a data or delimiter line, its end not counted.
 pub const LINE_BYTES: usize = 132;
+
+/// The bytes that are kept of a line between two parts: enough to know one that is too long.
+pub const KEPT_BYTES: usize = LINE_BYTES + 1;
 
 /// The bytes of a name.
 pub const NAME_BYTES: usize = 32;

@@ -1,16 +1,15 @@
-//! The calls on a pool: document 01, "What the library holds" and "Refusal numbers", and the strings
-//! of K2 of document 02.
+//! The calls on a pool: document 01, "What the library holds" and "Refusal numbers", and of document
+//! 02 the strings of K2 and the 22 of K5; the calls on an open text are in `parts`.
 //! A pool is memory lent by the caller; a refused call leaves every word of it.
 
 use crate::layout::{
-    counted, head, lower, pack_name, pair, put_string_byte, with_value, Held, HEADS_AT, NAMES_AT,
-    NAME_WORDS, STATEMENT_TOTAL, STRINGS_AT, STRING_TOTAL, TEXTS_AT, TEXT_TOTAL, VALUES_AT,
-    VALUE_TOTAL, WORDS,
+    counted, is_open, lower, pair, Extent, Held, HEADS_AT, NAMES_AT, NAME_WORDS, OPEN,
+    STATEMENT_TOTAL, STRINGS_AT, STRING_TOTAL, TEXTS_AT, TEXT_TOTAL, VALUES_AT, VALUE_TOTAL, WORDS,
 };
-use crate::limits::{STATEMENTS, STRING_ROOM, TEXTS, TEXT_BYTES, VALUES};
+use crate::limits::{STRING_ROOM, TEXTS, TEXT_BYTES};
 use crate::refusal::{Refusal, Refused};
-use crate::string::Quoted;
-use crate::text::{scan, Kind, Operator, Sink};
+use crate::storing::Writer;
+use crate::text::scan;
 use crate::variable::Variable;
 
 /// What a pool holds.
@@ -21,56 +20,55 @@ pub struct Totals {
     pub values: usize,
 }
 
-/// What is in use of a pool's room: what it holds, and the bytes of its strings.
-#[derive(Clone, Copy, Default)]
-struct Extent {
-    held: Totals,
-    string_bytes: usize,
-}
-
-/// Makes any memory of the fixed size an empty pool.
+/// Makes any memory of the fixed size an empty pool, in which no text is open.
 pub fn make_empty(pool: &mut [u64]) -> Result<(), Refused> {
     if pool.len() != WORDS {
         return Err(Refusal::DamagedPool.into());
     }
     write_totals(pool, Extent::default());
+    pool[OPEN] = 0;
     Ok(())
+}
+
+/// What is held in an undamaged pool, while none is open.
+fn held_alone(pool: &[u64]) -> Result<Held<'_>, Refusal> {
+    let held = Held::of(pool)?;
+    if is_open(pool) {
+        return Err(Refusal::TextOpen);
+    }
+    Ok(held)
 }
 
 /// Loads a text under a label. It is scanned twice: before it is known to be right and to have
 /// room, nothing is written.
 pub fn load(pool: &mut [u64], label: u32, text: &[u8]) -> Result<(), Refused> {
-    let held = Held::of(pool)?;
+    let held = held_alone(pool)?;
     if held.place(label).is_some() {
         return Err(Refusal::LabelHeld.into());
     }
     if text.len() > TEXT_BYTES {
         return Err(Refusal::TextTooLong.into());
     }
-    let mut new = Extent::default();
-    scan(text, &mut new)?;
-    let before = extent(&held);
-    let after = Extent {
-        held: Totals {
-            texts: before.held.texts + 1,
-            statements: before.held.statements + new.held.statements,
-            values: before.held.values + new.held.values,
-        },
-        string_bytes: before.string_bytes + new.string_bytes,
+    let mut new = Extent {
+        texts: 1,
+        ..Extent::default()
     };
-    if !has_room(after) {
+    scan(text, &mut new)?;
+    let before = held.extent();
+    let after = before.and(new);
+    if after.texts > TEXTS || !after.fits() {
         return Err(Refusal::NoRoom.into());
     }
     let mut writer = Writer { pool, end: before };
     scan(text, &mut writer)?;
-    pool[TEXTS_AT + before.held.texts] = pair(label, new.held.statements as u32);
+    pool[TEXTS_AT + before.texts] = pair(label, new.statements as u32);
     write_totals(pool, after);
     Ok(())
 }
 
 /// Takes out the text under a label.
 pub fn remove(pool: &mut [u64], label: u32) -> Result<(), Refused> {
-    let held = Held::of(pool)?;
+    let held = held_alone(pool)?;
     let text = held.place(label).ok_or(Refusal::NotHeld)?;
     let statement = counted(&held.texts[..text]) as usize;
     let statements = lower(held.texts[text]) as usize;
@@ -78,25 +76,22 @@ pub fn remove(pool: &mut [u64], label: u32) -> Result<(), Refused> {
     let values = counted(&held.heads[statement..][..statements]) as usize;
     let byte = held.string_bytes_before(value);
     let bytes = held.string_bytes_before(value + values) - byte;
-    let before = extent(&held);
-    let after = Extent {
-        held: Totals {
-            texts: before.held.texts - 1,
-            statements: before.held.statements - statements,
-            values: before.held.values - values,
-        },
-        string_bytes: before.string_bytes - bytes,
-    };
-    close_gap(pool, TEXTS_AT, text, 1, after.held.texts);
-    close_gap(pool, HEADS_AT, statement, statements, after.held.statements);
+    let after = held.extent().without(Extent {
+        texts: 1,
+        statements,
+        values,
+        string_bytes: bytes,
+    });
+    close_gap(pool, TEXTS_AT, text, 1, after.texts);
+    close_gap(pool, HEADS_AT, statement, statements, after.statements);
     close_gap(
         pool,
         NAMES_AT,
         NAME_WORDS * statement,
         NAME_WORDS * statements,
-        NAME_WORDS * after.held.statements,
+        NAME_WORDS * after.statements,
     );
-    close_gap(pool, VALUES_AT, value, values, after.held.values);
+    close_gap(pool, VALUES_AT, value, values, after.values);
     close_string_gap(pool, byte, bytes, after.string_bytes);
     write_totals(pool, after);
     Ok(())
@@ -104,7 +99,7 @@ pub fn remove(pool: &mut [u64], label: u32) -> Result<(), Refused> {
 
 /// Takes out all texts.
 pub fn clear(pool: &mut [u64]) -> Result<(), Refused> {
-    Held::of(pool)?;
+    held_alone(pool)?;
     write_totals(pool, Extent::default());
     Ok(())
 }
@@ -148,88 +143,19 @@ pub fn fetch_string(
 
 /// How many texts, statements and values are held.
 pub fn totals(pool: &[u64]) -> Result<Totals, Refused> {
-    Ok(extent(&Held::of(pool)?).held)
+    let held = Held::of(pool)?.extent();
+    Ok(Totals {
+        texts: held.texts,
+        statements: held.statements,
+        values: held.values,
+    })
 }
 
-/// The first scan of a text only counts.
-impl Sink for Extent {
-    fn head(&mut self, _: &[u8], _: Operator) {
-        self.held.statements += 1;
-    }
-
-    fn number(&mut self, _: f64) {
-        self.held.values += 1;
-    }
-
-    fn string(&mut self, string: Quoted) {
-        self.held.values += 1;
-        self.string_bytes += string.length();
-    }
-}
-
-/// The second scan writes to the free end of each area.
-struct Writer<'a> {
-    pool: &'a mut [u64],
-    end: Extent,
-}
-
-impl Writer<'_> {
-    /// A value's word, and one value more in its statement's head.
-    fn value(&mut self, kind: Kind, word: u64) {
-        let held = &mut self.end.held;
-        let place = HEADS_AT + held.statements - 1;
-        self.pool[place] = with_value(self.pool[place], kind);
-        self.pool[VALUES_AT + held.values] = word;
-        held.values += 1;
-    }
-}
-
-impl Sink for Writer<'_> {
-    fn head(&mut self, name: &[u8], operator: Operator) {
-        let statement = self.end.held.statements;
-        self.pool[HEADS_AT + statement] = head(operator);
-        if let Some(words) = pack_name(name) {
-            let at = NAMES_AT + NAME_WORDS * statement;
-            self.pool[at..at + NAME_WORDS].copy_from_slice(&words);
-        }
-        self.end.held.statements += 1;
-    }
-
-    fn number(&mut self, number: f64) {
-        self.value(Kind::Number, number.to_bits());
-    }
-
-    fn string(&mut self, string: Quoted) {
-        self.value(Kind::String, string.length() as u64);
-        for byte in string.bytes() {
-            put_string_byte(self.pool, self.end.string_bytes, byte);
-            self.end.string_bytes += 1;
-        }
-    }
-}
-
-fn extent(held: &Held) -> Extent {
-    Extent {
-        held: Totals {
-            texts: held.texts.len(),
-            statements: held.heads.len(),
-            values: held.values.len(),
-        },
-        string_bytes: held.strings.length,
-    }
-}
-
-fn has_room(extent: Extent) -> bool {
-    extent.held.texts <= TEXTS
-        && extent.held.statements <= STATEMENTS
-        && extent.held.values <= VALUES
-        && extent.string_bytes <= STRING_ROOM
-}
-
-fn write_totals(pool: &mut [u64], extent: Extent) {
-    pool[TEXT_TOTAL] = extent.held.texts as u64;
-    pool[STATEMENT_TOTAL] = extent.held.statements as u64;
-    pool[VALUE_TOTAL] = extent.held.values as u64;
+/// Writes how far each area is in use by held texts.
+pub fn write_totals(pool: &mut [u64], extent: Extent) {
+    pool[TEXT_TOTAL] = extent.texts as u64;
+    pool[STATEMENT_TOTAL] = extent.statements as u64;
+    pool[VALUE_TOTAL] = extent.values as u64;
     pool[STRING_TOTAL] = extent.string_bytes as u64;
 }
 

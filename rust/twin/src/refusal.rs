@@ -1,5 +1,5 @@
-//! The refusals and their numbers: document 01, "Refusal numbers", and K2, K3, K8, K10 and K13 of
-//! document 02.
+//! The refusals and their numbers: document 01, "Refusal numbers", and K2, K3, K5, K8, K10 and K13
+//! of document 02.
 
 /// Why a call is refused.
 #[derive(Clone, Copy, Debug, PartialEq, Eq)]
@@ -24,6 +24,7 @@ pub enum Refusal {
     BadValue,
     OpenList,
     RestOfLine,
+    TextOpen,
     BadDegree,
     BadRadius,
     BadRing,
@@ -54,6 +55,7 @@ impl Refusal {
             Refusal::BadValue => 19,
             Refusal::OpenList => 20,
             Refusal::RestOfLine => 21,
+            Refusal::TextOpen => 22,
             Refusal::BadDegree => 23,
             Refusal::BadRadius => 24,
             Refusal::BadRing => 25,

@@ -80,21 +80,21 @@ fn add_value(statements: &mut [Statement], value: Value) {
 
 /// A fault of a line, with what stands from there to the line's end: nothing, if the fault is that
 /// something is missing there.
-struct Fault<'a> {
-    refusal: Refusal,
+pub struct Fault<'a> {
+    pub refusal: Refusal,
     rest: &'a [u8],
 }
 
 impl Fault<'_> {
     /// The fault in a line of its number.
     fn within(self, line: &[u8], number: u64) -> Refused {
-        self.refusal.at(number, column(line, self.rest))
+        self.refusal.at(number, self.place(line) + 1)
     }
-}
 
-/// The column at which the rest of a line begins; one past the line if nothing is left.
-fn column(line: &[u8], rest: &[u8]) -> u64 {
-    (line.len() - rest.len()) as u64 + 1
+    /// How many bytes of its line stand before it: all of them if something is missing.
+    pub fn place(&self, line: &[u8]) -> u64 {
+        (line.len() - self.rest.len()) as u64
+    }
 }
 
 /// Tells a sink the statements of a text, up to the first fault if there is one.
@@ -110,33 +110,51 @@ pub fn scan(text: &[u8], sink: &mut impl Sink) -> Result<(), Refused> {
     }
     match state {
         State::Text | State::Data => Ok(()),
-        State::List { .. } => Err(Refusal::OpenList.at(number, column(line, &[]))),
+        State::List { .. } => Err(open_at_end(number, line.len() as u64)),
     }
+}
+
+/// A list that is open at the end of the text is told one past its last line.
+pub fn open_at_end(lines: u64, length: u64) -> Refused {
+    Refusal::OpenList.at(lines, length + 1)
 }
 
 /// Where a line begins: in a text section, in a data section, or there within an open list, whose
 /// kind is that of its first value.
-#[derive(Clone, Copy, PartialEq, Eq)]
-enum State {
+#[derive(Clone, Copy, Debug, PartialEq, Eq)]
+pub enum State {
     Text,
     Data,
     List { kind: Option<Kind> },
 }
 
-/// The first line without its end, and what follows it.
-/// A CR belongs to the end only when an LF follows it.
-fn first_line(text: &[u8]) -> (&[u8], &[u8]) {
-    match text.iter().position(|b| *b == b'\n') {
-        None => (text, &[]),
-        Some(end) => {
-            let line = &text[..end];
-            (line.strip_suffix(b"\r").unwrap_or(line), &text[end + 1..])
-        }
+impl State {
+    /// Whether a list is open that has no value yet.
+    pub fn is_empty_list(self) -> bool {
+        self == State::List { kind: None }
     }
 }
 
+/// The first line without its end, and what follows it.
+fn first_line(text: &[u8]) -> (&[u8], &[u8]) {
+    match text.iter().position(|b| *b == b'\n') {
+        None => (text, &[]),
+        Some(end) => (without_cr(&text[..end]), &text[end + 1..]),
+    }
+}
+
+/// What stands before an LF without one CR: this belongs to the line's end only when an LF follows
+/// it.
+pub fn without_cr(line: &[u8]) -> &[u8] {
+    line.strip_suffix(b"\r").unwrap_or(line)
+}
+
 /// The state after a line, or the line's first fault.
-fn scan_line<'a>(state: State, line: &'a [u8], sink: &mut impl Sink) -> Result<State, Fault<'a>> {
+pub fn scan_line<'a>(
+    state: State,
+    line: &'a [u8],
+    sink: &mut impl Sink,
+) -> Result<State, Fault<'a>> {
     let section = delimited(line);
     if state == State::Text && section.is_none() {
         return Ok(State::Text);
@@ -296,7 +314,7 @@ pub fn is_data_byte(b: u8) -> bool {
     matches!(b, b' '..=b'~' | b'\t')
 }
 
-fn is_blank(b: u8) -> bool {
+pub fn is_blank(b: u8) -> bool {
     matches!(b, b' ' | b'\t')
 }
 

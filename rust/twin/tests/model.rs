@@ -6,6 +6,7 @@ mod common;
 use common::Random;
 use twin::answers::{orientation, radii};
 use twin::layout::WORDS;
+use twin::parts::{close, drop, feed, open};
 use twin::pool::{clear, fetch, fetch_string, load, make_empty, remove, totals, Totals};
 use twin::refusal::{Refusal, Refused};
 use twin::rotation::{check_epoch, evaluate, Elements, Nutation, Orientation};
@@ -66,7 +67,7 @@ fn a_pool_answers_as_its_texts_do() {
     for _ in 0..HISTORIES {
         let mut memory = vec![random.below(u64::MAX); WORDS];
         make_empty(&mut memory).unwrap();
-        let mut model = Model { texts: Vec::new() };
+        let mut model = Model::default();
         for _ in 0..CALLS {
             let number = step(&mut memory, &mut model, &mut random);
             met[number as usize] += 1;
@@ -74,7 +75,7 @@ fn a_pool_answers_as_its_texts_do() {
     }
     println!("answers by number: {met:?}");
     for number in [
-        0, 1, 2, 6, 7, 8, 9, 10, 11, 12, 13, 14, 16, 17, 18, 19, 20, 21, 23, 24,
+        0, 1, 2, 6, 7, 8, 9, 10, 11, 12, 13, 14, 16, 17, 18, 19, 20, 21, 22, 23, 24,
     ] {
         assert!(met[number] > 0, "{number} is never met");
     }
@@ -83,7 +84,8 @@ fn a_pool_answers_as_its_texts_do() {
 /// One call on both sides; the number it is answered with.
 fn step(memory: &mut [u64], model: &mut Model, random: &mut Random) -> u32 {
     let before = memory.to_vec();
-    match random.below(18) {
+    match random.below(26) {
+        18..=25 => part_step(memory, model, random),
         0..=5 => {
             let label = random.one(&LABELS);
             let text = random_text(random);
@@ -99,7 +101,7 @@ fn step(memory: &mut [u64], model: &mut Model, random: &mut Random) -> u32 {
         }
         8 if random.below(8) == 0 => {
             let answer = clear(memory);
-            model.texts.clear();
+            assert_eq!(answer, model.clear());
             keeps_if_refused(memory, &before, &answer)
         }
         8..=9 => {
@@ -138,6 +140,41 @@ fn step(memory: &mut [u64], model: &mut Model, random: &mut Random) -> u32 {
             let answer = radii(memory, code);
             assert_eq!(answer, model.radii(code));
             answer.map_or_else(Refusal::number, |_| 0)
+        }
+    }
+}
+
+/// A text is opened, fed with a part of what is to come, closed or dropped, on both sides.
+fn part_step(memory: &mut [u64], model: &mut Model, random: &mut Random) -> u32 {
+    let before = memory.to_vec();
+    match random.below(12) {
+        0..=2 => {
+            let label = random.one(&LABELS);
+            let answer = open(memory, label);
+            assert_eq!(answer, model.open(label));
+            if answer.is_ok() {
+                model.coming = random_text(random);
+            }
+            keeps_if_refused(memory, &before, &answer)
+        }
+        3..=8 => {
+            let most = random.one(&[0, 1, 5, 40, 512, 70_000]);
+            let length = model.coming.len().min(most);
+            let part: Vec<u8> = model.coming.drain(..length).collect();
+            let answer = feed(memory, &part);
+            assert_eq!(answer, model.feed(&part));
+            keeps_if_refused(memory, &before, &answer)
+        }
+        9 | 10 => {
+            let answer = close(memory);
+            assert_eq!(answer, model.close());
+            assert_eq!(memory[4], 0);
+            number(&answer)
+        }
+        _ => {
+            let answer = drop(memory);
+            assert_eq!(answer, model.drop());
+            keeps_if_refused(memory, &before, &answer)
         }
     }
 }
@@ -183,19 +220,69 @@ fn bits(values: &[f64]) -> Vec<u64> {
     values.iter().map(|value| value.to_bits()).collect()
 }
 
-/// The held texts in load order.
+/// The held texts in load order, the open one with all its bytes, and what is still to be fed.
+#[derive(Default)]
 struct Model {
     texts: Vec<(u32, Vec<Statement>)>,
+    open: Option<(u32, Vec<u8>)>,
+    coming: Vec<u8>,
 }
 
 impl Model {
-    fn load(&mut self, label: u32, text: &[u8]) -> Result<(), Refused> {
+    fn is_closed(&self) -> Result<(), Refused> {
+        match self.open {
+            None => Ok(()),
+            Some(_) => Err(Refusal::TextOpen.into()),
+        }
+    }
+
+    fn is_new(&self, label: u32) -> Result<(), Refused> {
         if self.texts.iter().any(|(held, _)| *held == label) {
             return Err(Refusal::LabelHeld.into());
         }
+        Ok(())
+    }
+
+    fn open(&mut self, label: u32) -> Result<(), Refused> {
+        self.is_closed()?;
+        self.is_new(label)?;
+        self.open = Some((label, Vec::new()));
+        Ok(())
+    }
+
+    fn feed(&mut self, part: &[u8]) -> Result<(), Refused> {
+        let (_, text) = self.open.as_mut().ok_or(Refusal::NotHeld)?;
+        text.extend_from_slice(part);
+        Ok(())
+    }
+
+    fn close(&mut self) -> Result<(), Refused> {
+        let (label, text) = self.open.take().ok_or(Refusal::NotHeld)?;
+        self.hold(label, &text)
+    }
+
+    fn drop(&mut self) -> Result<(), Refused> {
+        self.open.take().ok_or(Refusal::NotHeld)?;
+        Ok(())
+    }
+
+    fn clear(&mut self) -> Result<(), Refused> {
+        self.is_closed()?;
+        self.texts.clear();
+        Ok(())
+    }
+
+    fn load(&mut self, label: u32, text: &[u8]) -> Result<(), Refused> {
+        self.is_closed()?;
+        self.is_new(label)?;
         if text.len() > 65_536 {
             return Err(Refusal::TextTooLong.into());
         }
+        self.hold(label, text)
+    }
+
+    /// Holds a text, if it is right and there is room.
+    fn hold(&mut self, label: u32, text: &[u8]) -> Result<(), Refused> {
         self.texts.push((label, read(text)?));
         let totals = self.totals();
         let string_bytes: usize = self
@@ -215,6 +302,7 @@ impl Model {
     }
 
     fn remove(&mut self, label: u32) -> Result<(), Refused> {
+        self.is_closed()?;
         let held = self.texts.len();
         self.texts.retain(|(other, _)| *other != label);
         if self.texts.len() == held {

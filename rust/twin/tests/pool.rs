@@ -101,16 +101,17 @@ fn the_words_of_a_load() {
     load(&mut pool, 7, &data(&format!("X = ( 1 -2 )\n{name} += 0.5"))).unwrap();
     load(&mut pool, u32::MAX, b"text").unwrap();
     let mut expected = vec![GARBAGE; WORDS];
-    expected[..6].copy_from_slice(&[2, 2, 3, 0, 7 << 32 | 2, 0xFFFF_FFFF << 32]);
-    expected[20] = 2;
-    expected[21] = 1 << 32 | 1;
-    expected[532..536].copy_from_slice(&[0x58 << 56, 0, 0, 0]);
+    expected[..5].copy_from_slice(&[2, 2, 3, 0, 0]);
+    expected[34..36].copy_from_slice(&[7 << 32 | 2, 0xFFFF_FFFF << 32]);
+    expected[51] = 2;
+    expected[52] = 1 << 32 | 1;
+    expected[563..567].copy_from_slice(&[0x58 << 56, 0, 0, 0]);
     for (i, chunk) in name.as_bytes().chunks(8).enumerate() {
-        expected[536 + i] = u64::from_be_bytes(chunk.try_into().unwrap());
+        expected[567 + i] = u64::from_be_bytes(chunk.try_into().unwrap());
     }
-    expected[2580] = 1.0f64.to_bits();
-    expected[2581] = (-2.0f64).to_bits();
-    expected[2582] = 0.5f64.to_bits();
+    expected[2611] = 1.0f64.to_bits();
+    expected[2612] = (-2.0f64).to_bits();
+    expected[2613] = 0.5f64.to_bits();
     assert_eq!(pool, expected);
 }
 
@@ -124,14 +125,15 @@ fn the_words_of_a_load_with_strings() {
     )
     .unwrap();
     let mut expected = vec![GARBAGE; WORDS];
-    expected[..5].copy_from_slice(&[1, 3, 5, 13, 7 << 32 | 3]);
-    expected[20..23].copy_from_slice(&[2 << 32 | 3, 1, 3 << 32 | 1]);
+    expected[..5].copy_from_slice(&[1, 3, 5, 13, 0]);
+    expected[34] = 7 << 32 | 3;
+    expected[51..54].copy_from_slice(&[2 << 32 | 3, 1, 3 << 32 | 1]);
     for (place, name) in [0x58, 0x59, 0x58].into_iter().enumerate() {
-        expected[532 + 4 * place..][..4].copy_from_slice(&[name << 56, 0, 0, 0]);
+        expected[563 + 4 * place..][..4].copy_from_slice(&[name << 56, 0, 0, 0]);
     }
-    expected[2580..2585].copy_from_slice(&[4, 0, 8, 1.0f64.to_bits(), 1]);
-    expected[5652] = u64::from_be_bytes(*b"Marsit's");
-    expected[5653] = u64::from_be_bytes(*b" reda\xA5\xA5\xA5");
+    expected[2611..2616].copy_from_slice(&[4, 0, 8, 1.0f64.to_bits(), 1]);
+    expected[5683] = u64::from_be_bytes(*b"Marsit's");
+    expected[5684] = u64::from_be_bytes(*b" reda\xA5\xA5\xA5");
     assert_eq!(pool, expected);
 }
 
@@ -144,8 +146,8 @@ fn emptying_writes_the_totals_only() {
     assert_eq!(pool, expected);
     let mut memory = vec![GARBAGE; WORDS];
     make_empty(&mut memory).unwrap();
-    assert_eq!(memory[..4], [0, 0, 0, 0]);
-    assert!(memory[4..].iter().all(|word| *word == GARBAGE));
+    assert_eq!(memory[..5], [0; 5]);
+    assert!(memory[5..].iter().all(|word| *word == GARBAGE));
 }
 
 #[test]
@@ -154,10 +156,10 @@ fn a_removal_closes_the_gaps_and_leaves_the_ends() {
     let mut expected = pool.clone();
     remove(&mut pool, 2).unwrap();
     expected[..4].copy_from_slice(&[2, 2, 3, 0]);
-    expected[5] = expected[6];
-    expected[21] = expected[23];
-    expected.copy_within(532 + 12..532 + 16, 536);
-    expected[2582] = expected[2585];
+    expected[35] = expected[36];
+    expected[52] = expected[54];
+    expected.copy_within(563 + 12..563 + 16, 567);
+    expected[2613] = expected[2616];
     assert_eq!(pool, expected);
     assert_eq!(values(&pool, "X"), Ok(vec![1.0, 2.0, 6.0]));
     assert_eq!(values(&pool, "Y"), Err(Refusal::NoVariable));
@@ -173,13 +175,13 @@ fn a_removal_closes_the_gap_between_strings_too() {
     let mut expected = pool.clone();
     remove(&mut pool, 2).unwrap();
     expected[..4].copy_from_slice(&[2, 2, 4, 19]);
-    expected[5] = expected[6];
-    expected[21] = expected[23];
-    expected.copy_within(532 + 12..532 + 16, 536);
-    expected.copy_within(2580 + 7..2580 + 9, 2582);
+    expected[35] = expected[36];
+    expected[52] = expected[54];
+    expected.copy_within(563 + 12..563 + 16, 567);
+    expected.copy_within(2611 + 7..2611 + 9, 2613);
     // The bytes from the 20th on are what they were.
     let words = [*b"onetwoth", *b"e thirdt", *b"exthe th", *b"irdtext\xA5"];
-    expected[5652..5656].copy_from_slice(&words.map(u64::from_be_bytes));
+    expected[5683..5687].copy_from_slice(&words.map(u64::from_be_bytes));
     assert_eq!(pool, expected);
     for (place, string) in ["one", "two", "the third", "text"].into_iter().enumerate() {
         assert_eq!(string_at(&pool, "X", place + 1), Ok(string.to_string()));
@@ -471,7 +473,7 @@ fn is_damaged(pool: &mut [u64]) {
 
 #[test]
 fn memory_of_another_size_is_damaged() {
-    for size in [0, 1, 4, 5651, 6675, 6677, 10_000] {
+    for size in [0, 1, 4, 5682, 6676, 6706, 6708, 10_000] {
         let mut pool = vec![0; size];
         is_damaged(&mut pool);
         refuses(&mut pool, make_empty, alone(Refusal::DamagedPool));
@@ -500,47 +502,47 @@ fn each_damage_and_its_neighbour() {
         &[(3, 8193)],
         &[(3, 1 << 32)],
         &[(3, u64::MAX)],
-        &[(5, 7 << 32)],
-        &[(5, 9 << 32)],
-        &[(4, 7 << 32)],
-        &[(4, 7 << 32 | 2)],
-        &[(4, 7 << 32 | 0xFFFF_FFFF), (5, 8 << 32 | 2)],
-        &[(20, 4 << 32 | 3)],
-        &[(20, 2 << 32 | 3)],
-        &[(20, 2)],
-        &[(20, 4), (21, 1 << 32)],
-        &[(20, 0xFFFF_FFFF), (21, 1 << 32 | 5)],
-        &[(532, 0)],
-        &[(532, X >> 8)],
-        &[(532, X | 1)],
-        &[(533, X)],
-        &[(535, 1)],
-        &[(532, 0x2D << 56)],
-        &[(532, X | 0x80 << 48)],
-        &[(2580, TWO_200)],
-        &[(2580, TWO_200 | SIGN)],
-        &[(2583, 0x7FF0_0000_0000_0000)],
-        &[(2583, 0x7FF8_0000_0000_0001)],
-        &[(2583, u64::MAX)],
+        &[(35, 7 << 32)],
+        &[(35, 9 << 32)],
+        &[(34, 7 << 32)],
+        &[(34, 7 << 32 | 2)],
+        &[(34, 7 << 32 | 0xFFFF_FFFF), (35, 8 << 32 | 2)],
+        &[(51, 4 << 32 | 3)],
+        &[(51, 2 << 32 | 3)],
+        &[(51, 2)],
+        &[(51, 4), (52, 1 << 32)],
+        &[(51, 0xFFFF_FFFF), (52, 1 << 32 | 5)],
+        &[(563, 0)],
+        &[(563, X >> 8)],
+        &[(563, X | 1)],
+        &[(564, X)],
+        &[(566, 1)],
+        &[(563, 0x2D << 56)],
+        &[(563, X | 0x80 << 48)],
+        &[(2611, TWO_200)],
+        &[(2611, TWO_200 | SIGN)],
+        &[(2614, 0x7FF0_0000_0000_0000)],
+        &[(2614, 0x7FF8_0000_0000_0001)],
+        &[(2614, u64::MAX)],
     ];
     are_damages(&base, damages);
     let neighbours: &[&[(usize, u64)]] = &[
-        &[(5, 0)],
-        &[(5, 0xFFFF_FFFF << 32)],
-        &[(4, 7 << 32), (5, 8 << 32 | 1)],
-        &[(20, 1 << 32 | 3)],
-        &[(20, 1), (21, 3)],
-        &[(532, u64::from_be_bytes(*b"azAZ09_x")), (533, X)],
-        &[(2580, TWO_200 - 1), (2581, (TWO_200 - 1) | SIGN)],
-        &[(2580, SIGN), (2581, 1), (2582, 1 | SIGN)],
+        &[(35, 0)],
+        &[(35, 0xFFFF_FFFF << 32)],
+        &[(34, 7 << 32), (35, 8 << 32 | 1)],
+        &[(51, 1 << 32 | 3)],
+        &[(51, 1), (52, 3)],
+        &[(563, u64::from_be_bytes(*b"azAZ09_x")), (564, X)],
+        &[(2611, TWO_200 - 1), (2612, (TWO_200 - 1) | SIGN)],
+        &[(2611, SIGN), (2612, 1), (2613, 1 | SIGN)],
         &[
-            (7, 7 << 32),
-            (22, u64::MAX),
-            (540, 0),
-            (2584, u64::MAX),
-            (5651, u64::MAX),
-            (5652, 0),
-            (6675, 1),
+            (37, 7 << 32),
+            (53, u64::MAX),
+            (571, 0),
+            (2615, u64::MAX),
+            (5682, u64::MAX),
+            (5683, 0),
+            (6706, 1),
         ],
     ];
     are_none(&base, neighbours, held(3, 2, 4));
@@ -582,7 +584,7 @@ fn pool_of_strings() -> Vec<u64> {
     let pool = pool_of(&[(7, "X = ( 'Mars' '' 'red' )\nN = 1"), (9, "X += 'caption'")]);
     assert_eq!(pool[..4], [2, 3, 5, 14]);
     assert_eq!(
-        pool[5652..5654],
+        pool[5683..5685],
         [word(b"Marsredc"), word(b"aption\xA5\xA5")]
     );
     pool
@@ -597,29 +599,29 @@ fn each_damage_of_strings() {
             &[(3, 15)],
             &[(3, 0)],
             &[(3, 14 + (1 << 32))],
-            &[(3, 8193), (2580, 8183)],
-            &[(2580, 3)],
-            &[(2580, 61), (3, 71)],
-            &[(2580, u64::MAX), (2581, 5)],
-            &[(2580, (1 << 63) + 4), (2581, 1 << 63)],
-            &[(2584, 6)],
-            &[(2584, 8)],
+            &[(3, 8193), (2611, 8183)],
+            &[(2611, 3)],
+            &[(2611, 61), (3, 71)],
+            &[(2611, u64::MAX), (2612, 5)],
+            &[(2611, (1 << 63) + 4), (2612, 1 << 63)],
+            &[(2615, 6)],
+            &[(2615, 8)],
             // The heads: strings that are numbers, and numbers that are strings.
-            &[(20, 3)],
-            &[(20, 1 << 32 | 3)],
-            &[(20, 4 << 32 | 3)],
-            &[(20, 6 << 32 | 3)],
-            &[(21, 2 << 32 | 1)],
-            &[(22, 4 << 32 | 1)],
-            &[(22, 2 << 32)],
-            &[(22, 1 << 34 | 1)],
+            &[(51, 3)],
+            &[(51, 1 << 32 | 3)],
+            &[(51, 4 << 32 | 3)],
+            &[(51, 6 << 32 | 3)],
+            &[(52, 2 << 32 | 1)],
+            &[(53, 4 << 32 | 1)],
+            &[(53, 2 << 32)],
+            &[(53, 1 << 34 | 1)],
             // The bytes: the first, one within, the last in use.
-            &[(5652, word(b"\narsredc"))],
-            &[(5652, word(b"Mar\x7Fredc"))],
-            &[(5652, word(b"Marsred\x80"))],
-            &[(5652, word(b"Marsred\0"))],
-            &[(5653, word(b"aptio\x1F\xA5\xA5"))],
-            &[(5653, word(b"aptio\xFF\xA5\xA5"))],
+            &[(5683, word(b"\narsredc"))],
+            &[(5683, word(b"Mar\x7Fredc"))],
+            &[(5683, word(b"Marsred\x80"))],
+            &[(5683, word(b"Marsred\0"))],
+            &[(5684, word(b"aptio\x1F\xA5\xA5"))],
+            &[(5684, word(b"aptio\xFF\xA5\xA5"))],
         ],
     );
 }
@@ -627,28 +629,28 @@ fn each_damage_of_strings() {
 #[test]
 fn neighbours_of_damages_of_strings() {
     let spaces = word(b"        ");
-    let mut longest = vec![(2580, 60), (3, 70), (5653, word(b"aption  "))];
-    longest.extend((5654..=5660).map(|index| (index, spaces)));
+    let mut longest = vec![(2611, 60), (3, 70), (5684, word(b"aption  "))];
+    longest.extend((5685..=5691).map(|index| (index, spaces)));
     are_none(
         &pool_of_strings(),
         &[
-            &[(20, 3 << 32 | 3)],
-            &[(22, 2 << 32 | 1)],
-            &[(21, 1 << 32 | 1)],
-            &[(2580, 0), (2581, 0), (2582, 7)],
-            &[(2580, 5), (2584, 6)],
+            &[(51, 3 << 32 | 3)],
+            &[(53, 2 << 32 | 1)],
+            &[(52, 1 << 32 | 1)],
+            &[(2611, 0), (2612, 0), (2613, 7)],
+            &[(2611, 5), (2615, 6)],
             &longest,
-            &[(5652, word(b"\t ~'\"(),"))],
-            &[(5653, word(b"aption\0\xFF"))],
-            &[(5654, 0), (6675, 0)],
+            &[(5683, word(b"\t ~'\"(),"))],
+            &[(5684, word(b"aption\0\xFF"))],
+            &[(5685, 0), (6706, 0)],
             // Numbers and strings change places with the bytes that belong to them.
             &[
-                (21, 2 << 32 | 1),
-                (2583, 2),
+                (52, 2 << 32 | 1),
+                (2614, 2),
                 (3, 16),
-                (5653, word(b"aption: ")),
+                (5684, word(b"aption: ")),
             ],
-            &[(22, 1 << 32 | 1), (3, 7), (2584, 7)],
+            &[(53, 1 << 32 | 1), (3, 7), (2615, 7)],
         ],
         held(2, 3, 5),
     );

@@ -6,15 +6,18 @@ use std::process::ExitCode;
 use std::time::{Duration, Instant};
 
 use differential::{
-    damage, decimals, degrees, drive, histories, kernels, long_numbers, orientations, radii,
+    damage, decimals, degrees, drive, histories, kernels, long_numbers, orientations, parts, radii,
     strings, texts, Random, Tally,
 };
 
 /// One kind of comparison: its name, what it runs, and how much of it in a round.
 type Kind = (&'static str, fn(&mut Random, usize) -> Tally, usize);
 
-const KINDS: [Kind; 12] = [
+const KINDS: [Kind; 15] = [
     ("generated texts", texts::run, 20_000),
+    ("texts cut at every byte", parts::run_cuts, 20),
+    ("calls on texts in parts", parts::run, 1_000),
+    ("texts of megabytes", parts::run_long, 4),
     ("calls of histories", histories::run, 1_000),
     ("orientations by pools", orientations::run_on_pools, 20_000),
     (

@@ -1,9 +1,11 @@
 //! `twin histories-input` and `twin histories`: a script of calls on a pool, and every answer.
-//! A call is a line; a load's text follows its line as counted bytes and LF.
+//! A call is a line; the text of a load, or the part of a feed, follows its line as counted bytes
+//! and LF.
 
 use std::io::{self, Write};
 
 use twin::layout::WORDS;
+use twin::parts;
 use twin::pool;
 use twin::refusal::{Refusal, Refused};
 
@@ -77,6 +79,17 @@ fn write_answer(
             let text = stream.bytes(number(length)?)?;
             write_load(out, label, pool::load(pool, label, text))
         }
+        b"open" => {
+            let label = number(fields)?;
+            write_change(out, &format!("open {label}"), parts::open(pool, label))
+        }
+        b"feed" => {
+            let part = stream.bytes(number(fields)?)?;
+            let call = format!("feed {}", part.len());
+            write_change(out, &call, parts::feed(pool, part))
+        }
+        b"close" => write_close(out, parts::close(pool)),
+        b"drop" => write_change(out, "drop", parts::drop(pool)),
         b"fetch" => write_fetch(pool, fields, out).map(|()| false),
         b"quoted" => write_quoted(pool, fields, out).map(|()| false),
         b"totals" => write_totals(pool, out).map(|()| false),
@@ -92,12 +105,27 @@ fn write_change(out: &mut impl Write, call: &str, answer: Result<(), Refused>) -
 
 /// A load's answer: label, number, line and column.
 fn write_load(out: &mut impl Write, label: u32, answer: Result<(), Refused>) -> io::Result<bool> {
+    writeln!(out, "load {label} {}", placed(&answer))?;
+    Ok(answer.is_ok())
+}
+
+/// A closing's answer: number, line and column. It has changed the pool too where the text is
+/// refused.
+fn write_close(out: &mut impl Write, answer: Result<(), Refused>) -> io::Result<bool> {
+    writeln!(out, "close {}", placed(&answer))?;
+    let kept = answer.err().map(|refused| refused.refusal);
+    Ok(!matches!(
+        kept,
+        Some(Refusal::NotHeld | Refusal::DamagedPool)
+    ))
+}
+
+/// The number, line and column of an answer.
+fn placed(answer: &Result<(), Refused>) -> String {
     let (line, column) = answer
         .err()
         .map_or((0, 0), |refused| (refused.line, refused.column));
-    let number = refusal_number(&answer);
-    writeln!(out, "load {label} {number} {line} {column}")?;
-    Ok(answer.is_ok())
+    format!("{} {line} {column}", refusal_number(answer))
 }
 
 /// A fetch's answer: name, number, count and the bits of the values. The buffer's length stands

@@ -9,6 +9,7 @@ use twin::limits::{LINE_BYTES, STATEMENTS, STRING_ROOM, TEXTS, TEXT_BYTES, VALUE
 
 use super::history_degrees;
 use super::history_numbers;
+use super::history_parts;
 use super::history_strings;
 use super::random::Random;
 use super::script::{data, Change, Script};
@@ -41,6 +42,7 @@ pub fn script() -> Vec<u8> {
     history_strings::add(&mut script);
     history_numbers::add(&mut script);
     history_degrees::add(&mut script);
+    history_parts::add(&mut script);
     radii(&mut script);
     mixtures(&mut script);
     script.bytes
@@ -665,12 +667,12 @@ fn statements(count: usize) -> String {
     data(&"A+=1\n".repeat(count))
 }
 
-/// A text of one statement with so many values.
+/// A text of one statement with so many values, of one digit each, in no regular order.
 fn values(count: usize) -> String {
     let mut text = data("V = (");
     for i in 0..count {
         text.push_str(if i % 20 == 0 { "\n" } else { " " });
-        text.push_str(&(i % 100).to_string());
+        text.push_str(&(i * i / 7 % 10).to_string());
     }
     text.push_str("\n)");
     text

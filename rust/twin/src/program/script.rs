@@ -27,6 +27,23 @@ impl Script {
         self.line(text);
     }
 
+    pub fn open(&mut self, label: u32) {
+        self.line(&format!("open {label}"));
+    }
+
+    pub fn feed(&mut self, part: &str) {
+        self.line(&format!("feed {}", part.len()));
+        self.line(part);
+    }
+
+    pub fn close(&mut self) {
+        self.line("close");
+    }
+
+    pub fn drop(&mut self) {
+        self.line("drop");
+    }
+
     pub fn remove(&mut self, label: u32) {
         self.line(&format!("remove {label}"));
     }
@@ -66,6 +83,10 @@ impl Script {
         self.load(3, &data("X = 1"));
         self.remove(7);
         self.clear();
+        self.open(3);
+        self.feed("");
+        self.close();
+        self.drop();
     }
 
     /// Words that damage the pool, and the words as they were.
