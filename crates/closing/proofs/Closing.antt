@@ -29,11 +29,11 @@ use Rattle.layout.proofs.Columns.{addColumns, flat-map}
 use Rattle.layout.proofs.Holds.{Holds, holds-decode, perText, perStatement, inkedAt, length-laid-texts, length-laid-heads}
 use Rattle.layout.proofs.Legal.{Fits}
 use Rattle.layout.proofs.Sound.{sound-of, orderly-of}
-use Rattle.pool.specs.Load.{with}
+use Rattle.loading.specs.Load.{with}
 use Rattle.pool.specs.Replies.{done, refusing}
 use Rattle.pool.specs.declared.reply.Reply.{Reply}
 use Rattle.pool.specs.declared.reply.Reply.the-variants.{Done, Refused}
-use Rattle.pool.proofs.Rooms.{texts-with, statements-with, values-with, bytes-with}
+use Rattle.loading.proofs.Rooms.{texts-with, statements-with, values-with, bytes-with}
 use Rattle.feeding.specs.Kept.{settled}
 use Rattle.feeding.specs.Parts.{MOST, Open, Ended, more, lastLine, lastly}
 use Rattle.feeding.specs.Stored.{line, Settles}

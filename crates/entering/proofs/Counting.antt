@@ -19,8 +19,8 @@ use Rattle.statement.proofs.OneKind.{Taking, Full, After, Led, all-kept}
 use Rattle.layout.specs.State.{flat, wordsOf, spelled, valuesOf, bytesOf}
 use Rattle.layout.proofs.Columns.{flat-append}
 use Rattle.layout.proofs.Spelling.{length-words}
-use Rattle.pool.proofs.Adding.{spelled-long}
-use Rattle.pool.proofs.Kept.{Number, String}
+use Rattle.loading.proofs.Adding.{spelled-long}
+use Rattle.loading.proofs.Kept.{Number, String}
 use Rattle.opening.specs.Storing.{PLACEHOLDER, ofKind, onLast, extended}
 use Rattle.opening.proofs.Extending.{stating, extended-none, extended-opened, extended-given}
 use Rattle.opening.proofs.Lines.{Outside, Sort, Holds}

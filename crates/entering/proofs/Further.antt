@@ -19,7 +19,7 @@ use Rattle.layout.proofs.Holds.{inkedAt, length-laid-heads}
 use Rattle.page.specs.Writing.{page, penBehind}
 use Rattle.page.specs.declared.pen.Pen.{Pen}
 use Rattle.pool.proofs.Inking.{ink-over, ink-append, ink-length}
-use Rattle.pool.proofs.Laid.{laidOn}
+use Rattle.loading.proofs.Laid.{laidOn}
 
 -- ---- words written in three columns, and bytes before them
 

@@ -19,7 +19,7 @@ use Rattle.layout.specs.Memory.{operatorNumber, headWord}
 use Rattle.layout.proofs.Columns.{flat-append}
 use Rattle.opening.specs.Storing.{ofKind}
 use Rattle.opening.proofs.Lists.{map-append}
-use Rattle.pool.proofs.Kept.{wordIn, lettersIn, headAfter, Number, String, number-words, number-letters, number-head, string-words, string-letters, string-head, keeps}
+use Rattle.loading.proofs.Kept.{wordIn, lettersIn, headAfter, Number, String, number-words, number-letters, number-head, string-words, string-letters, string-head, keeps}
 use Rattle.entering.specs.Counts.{placesOf}
 use Rattle.entering.specs.Lines.{Fills}
 use Rattle.entering.proofs.Further.{Goes}

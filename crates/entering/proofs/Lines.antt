@@ -42,8 +42,8 @@ use Rattle.layout.proofs.Legal.{Fair}
 use Rattle.layout.proofs.Sound.{Orderly, orderly-of}
 use Rattle.page.specs.Pens.{Stretches, Tells}
 use Rattle.page.specs.Writing.{page, bareHead, openedOn, writtenOn}
-use Rattle.pool.proofs.Admitted.{Small}
-use Rattle.pool.proofs.Kept.{statementOf}
+use Rattle.loading.proofs.Admitted.{Small}
+use Rattle.loading.proofs.Kept.{statementOf}
 use Rattle.writing.specs.Pens.{Roomy}
 use Rattle.bookmark.specs.declared.mark.Entered.{Entered}
 use Rattle.opening.specs.Storing.{ofKind, onLast, extended, fitting}

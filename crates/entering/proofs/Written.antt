@@ -22,9 +22,9 @@ use Rattle.layout.proofs.Holds.{inkedAt}
 use Rattle.layout.proofs.Spelling.{length-words}
 use Rattle.page.specs.Writing.{Page, page, writtenOn}
 use Rattle.page.specs.declared.pen.Pen.{Pen}
-use Rattle.pool.proofs.Admitted.{Small}
-use Rattle.pool.proofs.Kept.{wordIn, lettersIn, headAfter, statementOf, Whole}
-use Rattle.pool.proofs.Laid.{laidOn, Apart, Even, behind, given-written, all-written}
+use Rattle.loading.proofs.Admitted.{Small}
+use Rattle.loading.proofs.Kept.{wordIn, lettersIn, headAfter, statementOf, Whole}
+use Rattle.loading.proofs.Laid.{laidOn, Apart, Even, behind, given-written, all-written}
 use Rattle.opening.proofs.Extending.{gathered-values}
 use Rattle.entering.proofs.Further.{Behind, Room, laid-further, length-last, Within, last-further}
 use Rattle.entering.proofs.Going.{Continues}

@@ -1,4 +1,4 @@
-// The public face: the eight calls of document 01, and document 02's fetch of strings and load in parts.
+// Orientation and radii of a body, from a pool or the built-in table.
 pub mod calls;
 pub mod orientation;
 pub mod radii;

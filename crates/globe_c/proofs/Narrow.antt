@@ -35,7 +35,8 @@ use Rattle.pool.specs.declared.reply.Reply.{Reply}
 use Rattle.pool.specs.declared.reply.Reply.the-variants.{Done}
 use Rattle.pool.specs.declared.reply.Counts.the-variants as C
 use Rattle.variables.specs.Variables.{Datum, number, string, each, has, any, assigns, since, gives, variable, present, allNumbers, allStrings}
-use Rattle.pool.specs.Load.{held, admitted, loadAnswer, loadReply, with, textOf}
+use Rattle.pool.specs.Held.{held}
+use Rattle.loading.specs.Load.{admitted, loadAnswer, loadReply, with, textOf}
 use Rattle.variables.specs.Found.{foundIn}
 use Rattle.variables.specs.Spelled.{letters, stringOf, spelledIn}
 use Rattle.pool.specs.Fetch.{fetched, fetchReply}

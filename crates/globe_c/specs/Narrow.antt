@@ -3,7 +3,7 @@ use Prim.Native.Nat.{ℕ}
 use mathlib.Core.Path.{_≡_}
 use mathlib.Core.List.{List}
 use Rattle.pool.specs.Empty.{emptyReply, clearReply}
-use Rattle.pool.specs.Load.{loadReply}
+use Rattle.loading.specs.Load.{loadReply}
 use Rattle.pool.specs.Remove.{removeReply}
 use Rattle.intake.specs.Calls.{openReply, feedReply, closeReply}
 use Rattle.pool.specs.Fetch.{fetchReply}

@@ -18,7 +18,7 @@ pub fn load(fields: &[u8], text: &[u8], words: &mut [u64], size: usize)
 {
     let label = label_of(script::before(fields, b' '));
     let count = numbers::natural(script::after(fields, b' ')) as usize;
-    let reply = pool::load::load(&mut words[0..size], label, script::first(text, count));
+    let reply = loading::load::load(&mut words[0..size], label, script::first(text, count));
     print::bytes(b"load");
     print::field(label as u64);
     print::field(replies::number(reply));

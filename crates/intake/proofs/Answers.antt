@@ -7,7 +7,7 @@ use Rattle.refusal.specs.declared.Refusal.{Refusal}
 use Rattle.refusal.specs.declared.Refusal.the-variants.{LabelHeld, NotHeld, DamagedPool, TextOpen}
 use Rattle.layout.specs.Memory.{decode, opens, openLabel}
 use Rattle.layout.specs.Damage.{sound}
-use Rattle.pool.specs.Load.{held}
+use Rattle.pool.specs.Held.{held}
 use Rattle.pool.specs.Replies.{refusing}
 use Rattle.pool.specs.declared.reply.Reply.the-variants.{Done, Refused}
 use Rattle.feeding.specs.Parts.{fed}

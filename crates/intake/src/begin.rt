@@ -6,7 +6,7 @@ use bookmark::mark::Standing;
 use feeding::kept::Kept;
 use layout::check::is_open;
 use layout::check::is_sound;
-use pool::load::is_held;
+use pool::held::is_held;
 use pool::reply::Reply;
 use refusal::Refusal;
 use statement::values::Reader;

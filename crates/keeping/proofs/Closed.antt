@@ -13,9 +13,9 @@ use Rattle.layout.proofs.Areas.{getD-over}
 use Rattle.layout.proofs.Holds.{decode-fits, decode-legal, decode-put, put-closed, put-sound}
 use Rattle.layout.proofs.Legal.{Fits, Legal, fits-of, legal-add}
 use Rattle.layout.proofs.Sound.{sound-of, of-sound}
-use Rattle.pool.specs.Load.{with}
+use Rattle.loading.specs.Load.{with}
 use Rattle.pool.specs.Replies.{done}
-use Rattle.pool.proofs.Loaded.{absent}
+use Rattle.loading.proofs.Loaded.{absent}
 use Rattle.opening.specs.Closing.{closed, closeAnswer, closedPool}
 use Rattle.opening.proofs.Storable.{Storable}
 use Rattle.opening.proofs.Undamaged.{storable-closed, room-closed}

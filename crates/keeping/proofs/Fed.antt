@@ -8,7 +8,7 @@ use Rattle.octets.proofs.Bytes.{Bytes}
 use Rattle.layout.specs.State.{Pool}
 use Rattle.layout.specs.Memory.{decode, opens, openLabel}
 use Rattle.layout.specs.Damage.{sound}
-use Rattle.pool.specs.Load.{held}
+use Rattle.pool.specs.Held.{held}
 use Rattle.feeding.specs.Parts.{Open, fed}
 use Rattle.opening.specs.Storing.{complete}
 use Rattle.entering.specs.Entries.{Entry, progressOf, completeOn}

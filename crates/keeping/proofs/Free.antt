@@ -12,7 +12,7 @@ use Rattle.words.proofs.Halves.{place-absent, absent-place}
 use Rattle.layout.specs.Memory.{textWords, decode, opens, openLabel}
 use Rattle.layout.specs.Damage.{sound}
 use Rattle.layout.proofs.Sound.{sound-of, sound-open}
-use Rattle.pool.specs.Load.{held}
+use Rattle.pool.specs.Held.{held}
 use Rattle.pool.proofs.Labels.{held-placed}
 use Rattle.keeping.proofs.Merged.{merged-label}
 

@@ -9,7 +9,7 @@ use Rattle.layout.specs.Limits.{room}
 use Rattle.layout.specs.Memory.{cutStatements, decode, opens}
 use Rattle.layout.specs.Damage.{totalBytes, sound}
 use Rattle.layout.proofs.Sound.{sound-of}
-use Rattle.pool.specs.Load.{held}
+use Rattle.pool.specs.Held.{held}
 use Rattle.feeding.specs.Parts.{opening}
 use Rattle.opening.specs.Storing.{start}
 use Rattle.intake.specs.Opened.{stateIn, stowed, beginning}

@@ -20,11 +20,11 @@ use Rattle.layout.specs.Damage.{sized, sound}
 use Rattle.layout.proofs.Sound.{sound-of}
 use Rattle.pool.specs.Replies.{done, refusing}
 use Rattle.pool.specs.Empty.{emptyReply, emptied, Empties}
-use Rattle.pool.specs.Load.{textOf, with, loadAnswer, loadReply, loadMemory, Loads}
+use Rattle.loading.specs.Load.{textOf, with, loadAnswer, loadReply, loadMemory, Loads}
 use Rattle.pool.specs.declared.reply.Reply.{Reply}
 use Rattle.pool.specs.declared.reply.Reply.the-variants.{Done, Refused}
 use Rattle.pool.proofs.Emptying.{empty-sound, empty-decode, empty-shut}
-use Rattle.pool.proofs.Loaded.{load-sound, load-decode}
+use Rattle.loading.proofs.Loaded.{load-sound, load-decode}
 use Rattle.shown.specs.Shown.{shown}
 use Rattle.shown.specs.Shows.{Showing}
 use Rattle.listing.specs.Listing.{LABEL, refusalLine, loaded, told, listing}

@@ -9,7 +9,7 @@ use Rattle.plain.specs.Ascii.{ascii}
 use Rattle.plain.specs.Bytes.{SPACE}
 use Rattle.layout.specs.State.{Pool}
 use Rattle.pool.specs.Replies.{replyNumber, replyLine, replyColumn}
-use Rattle.pool.specs.Load.{textOf, with, loadAnswer}
+use Rattle.loading.specs.Load.{textOf, with, loadAnswer}
 use Rattle.pool.specs.declared.reply.Reply.{Reply}
 use Rattle.pool.specs.declared.reply.Reply.the-variants.{Done, Refused}
 use Rattle.pen.specs.Pen.{phrase, entry}

@@ -1,9 +1,9 @@
 // The listing of a text: it is loaded into an empty pool, and the pool is shown; or it is refused.
+use loading::load::load;
 use pen::write_byte;
 use pen::write_entry;
 use pen::write_phrase;
 use pool::empty::make_empty;
-use pool::load::load;
 use pool::reply::Reply;
 use refusal::number;
 use shown::show;

@@ -17,7 +17,7 @@ use Rattle.text.specs.Lines.{lines}
 use Rattle.text.specs.Text.{readText}
 use Rattle.layout.specs.State.{Pool}
 use Rattle.layout.specs.Limits.{room}
-use Rattle.pool.specs.Load.{textOf, with, admitted}
+use Rattle.loading.specs.Load.{textOf, with, admitted}
 use Rattle.pool.specs.Replies.{done, refusing}
 use Rattle.pool.specs.declared.reply.Reply.{Reply}
 use Rattle.feeding.specs.Parts.{MOST, Open, Ended, opening, fed, folded, joined}

@@ -18,10 +18,10 @@ use Rattle.text.specs.Text.{fine, refused, readText}
 use Rattle.layout.specs.State.{Pool}
 use Rattle.layout.specs.Limits.{TEXTS, room}
 use Rattle.layout.proofs.Legal.{Fair}
-use Rattle.pool.specs.Load.{textOf, with, admitted}
+use Rattle.loading.specs.Load.{textOf, with, admitted}
 use Rattle.pool.specs.Replies.{done}
-use Rattle.pool.proofs.Adding.{body-read}
-use Rattle.pool.proofs.Admitted.{text-fair}
+use Rattle.loading.proofs.Adding.{body-read}
+use Rattle.loading.proofs.Admitted.{text-fair}
 use Rattle.feeding.specs.Reading.{going, stopped, endingAt}
 use Rattle.feeding.specs.Reading as G
 use Rattle.opening.specs.Storing.{Progress, placed, withPlace, fitting, stored}

@@ -14,7 +14,7 @@ use Rattle.statement.specs.declared.values.Kind.the-variants as K
 use Rattle.statement.proofs.Names.{LegalName}
 use Rattle.statement.proofs.OneKind.{LegalValue, LegalValues, legal-values}
 use Rattle.layout.proofs.Legal.{FairString, FairValues, Fair}
-use Rattle.pool.proofs.Admitted.{Small, fair-values, fair}
+use Rattle.loading.proofs.Admitted.{Small, fair-values, fair}
 use Rattle.opening.specs.Storing.{placed, inPlace, joinedTo, ofKind, onLast, extended}
 use Rattle.opening.proofs.Lines.{Sort, Holds}
 use Rattle.opening.proofs.Extending.{stating, extended-none, extended-opened, extended-given}

@@ -16,8 +16,8 @@ use Rattle.statement.specs.declared.values.Reader.{Reader}
 use Rattle.layout.specs.State.{Text, Pool, program, flat, valuesOf, bytesOf, values, stringBytes}
 use Rattle.layout.specs.Limits.{TEXTS, STATEMENTS, VALUES, BYTES, room}
 use Rattle.layout.proofs.Legal.{fits-of}
-use Rattle.pool.specs.Load.{with}
-use Rattle.pool.proofs.Rooms.{texts-with, statements-with, values-with, bytes-with}
+use Rattle.loading.specs.Load.{with}
+use Rattle.loading.proofs.Rooms.{texts-with, statements-with, values-with, bytes-with}
 use Rattle.bookmark.specs.declared.mark.Standing.the-variants as S
 use Rattle.opening.specs.Storing.{Progress, fitting}
 

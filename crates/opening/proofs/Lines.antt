@@ -19,7 +19,7 @@ use Rattle.statement.proofs.Names.{LegalName, LegalHead, legal-head}
 use Rattle.statement.proofs.OneKind.{FairLine, LegalValue, Led, Good, good-listed, good-given}
 use Rattle.text.specs.Line.{Outcome, next, fault, adding, stated, section, answered}
 use Rattle.text.proofs.Answers.{FairTo, said, holds-answered}
-use Rattle.pool.proofs.Admitted.{Small, read-small}
+use Rattle.loading.proofs.Admitted.{Small, read-small}
 
 -- a reader outside any list
 abbrev pub Outside : Reader → Type 0

@@ -15,7 +15,7 @@ use Rattle.statement.specs.declared.values.Reader.{Reader}
 use Rattle.statement.specs.declared.values.Reader.the-variants as R
 use Rattle.layout.specs.State.{Text, Pool}
 use Rattle.layout.specs.Limits.{TEXTS, room}
-use Rattle.pool.specs.Load.{with}
+use Rattle.loading.specs.Load.{with}
 use Rattle.pool.specs.Replies.{done, refusing}
 use Rattle.feeding.specs.Kept.{keep, settled}
 use Rattle.feeding.specs.Parts.{MOST, more, Open, Ended, holding, ended, step, fed, lastly}

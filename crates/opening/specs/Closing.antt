@@ -16,7 +16,7 @@ use Rattle.text.specs.Columns.{columnOf}
 use Rattle.text.specs.Text.{readText}
 use Rattle.layout.specs.State.{Pool}
 use Rattle.layout.specs.Limits.{TEXTS, room}
-use Rattle.pool.specs.Load.{textOf, with, admitted}
+use Rattle.loading.specs.Load.{textOf, with, admitted}
 use Rattle.pool.specs.Replies.{done, refusing}
 use Rattle.pool.specs.declared.reply.Reply.{Reply}
 use Rattle.pool.specs.declared.reply.Reply.the-variants.{Done, Refused}

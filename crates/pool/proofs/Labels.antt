@@ -11,7 +11,7 @@ use Rattle.plain.specs.Choice.{if_then_else_}
 use Rattle.statement.specs.Statements.{Statement}
 use Rattle.words.specs.Halves.{upper, lower, place}
 use Rattle.layout.specs.Memory.{textWords, headWords, nameWords, valueWords, heldBytes, cutStatements, cutTexts, decode}
-use Rattle.pool.specs.Load.{held}
+use Rattle.pool.specs.Held.{held}
 
 next-below : (a b : ℕ) → ltb a b ≡ ltb (suc a) (suc b)
 next-below a b = by (ltb a b) refl

@@ -13,7 +13,7 @@ use Rattle.words.proofs.Halves.{upper-joined}
 use Rattle.layout.specs.State.{Text, Pool}
 use Rattle.layout.specs.Memory.{textWord}
 use Rattle.layout.proofs.Codec.{ShortText}
-use Rattle.pool.specs.Load.{held}
+use Rattle.pool.specs.Held.{held}
 use Rattle.pool.specs.Remove.{without}
 
 -- the state around the text under a label

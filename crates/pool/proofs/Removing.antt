@@ -21,7 +21,7 @@ use Rattle.layout.proofs.Legal.{Fair}
 use Rattle.removing.specs.Gaps.{Gapped, takenOut}
 use Rattle.removing.proofs.Removal.{gapped, taken-out}
 use Rattle.pool.specs.Replies.{refusing}
-use Rattle.pool.specs.Load.{held}
+use Rattle.pool.specs.Held.{held}
 use Rattle.pool.specs.Remove.{without, removeReply, removeMemory, Removes}
 use Rattle.pool.specs.declared.reply.Reply.the-variants.{Done}
 use Rattle.pool.proofs.Labels.{held-placed}

@@ -10,7 +10,7 @@ use Rattle.layout.specs.State.{Pool}
 use Rattle.layout.specs.Memory.{decode, put, opens}
 use Rattle.layout.specs.Damage.{sound}
 use Rattle.pool.specs.Replies.{done, refusing}
-use Rattle.pool.specs.Load.{held}
+use Rattle.pool.specs.Held.{held}
 use Rattle.pool.specs.declared.reply.Reply.{Reply}
 use Rattle.pool.specs.declared.reply.Reply.the-variants.{Done}
 

@@ -2,7 +2,7 @@
 pub mod empty;
 pub mod fetch;
 pub mod fetch_string;
-pub mod load;
+pub mod held;
 pub mod remove;
 pub mod reply;
 pub mod totals;

@@ -15,7 +15,8 @@ use Rattle.layout.specs.Limits.{room, LONGEST-LOAD}
 use Rattle.layout.specs.Memory.{decode, opens}
 use Rattle.layout.specs.Damage.{sound}
 use Rattle.pool.specs.Replies.{done, refusing}
-use Rattle.pool.specs.Load.{held, textOf, with, admitted, loadAnswer, loadReply}
+use Rattle.pool.specs.Held.{held}
+use Rattle.loading.specs.Load.{textOf, with, admitted, loadAnswer, loadReply}
 use Rattle.pool.specs.declared.reply.Reply.{Reply}
 use Rattle.pool.specs.declared.reply.Reply.the-variants.{Done}
 use Rattle.promises.specs.Calls.{load, asked, library, accepted}

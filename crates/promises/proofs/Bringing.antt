@@ -6,7 +6,7 @@ use mathlib.Core.List.{List, [], _∷_, _++_, map, append-assoc, append-nil}
 use lib.ListN.{length}
 use Rattle.plain.specs.Choice.{if_then_else_}
 use Rattle.layout.specs.State.{program}
-use Rattle.pool.specs.Load.{textOf}
+use Rattle.loading.specs.Load.{textOf}
 use Rattle.promises.specs.Calls as C
 use Rattle.promises.specs.Calls.{Call, Build, number, accepted, endsOpen}
 use Rattle.promises.specs.Histories.{Way, whole, inParts, Loaded, coming, loading, some, Kept, nothing, closed, kept, refusedWith, after, still, AllAccepted, text, texts}

@@ -29,7 +29,8 @@ use Rattle.text.specs.Text.{Read, readFrom, readText}
 use Rattle.layout.specs.State.{Pool, program, flat}
 use Rattle.layout.specs.Limits.{room}
 use Rattle.variables.specs.Variables.{any, since, variable, present, allNumbers, allStrings}
-use Rattle.pool.specs.Load.{held, textOf, loadAnswer}
+use Rattle.pool.specs.Held.{held}
+use Rattle.loading.specs.Load.{textOf, loadAnswer}
 use Rattle.pool.specs.Remove.{without}
 use Rattle.pool.specs.declared.reply.Reply.{Reply}
 

@@ -6,7 +6,7 @@ use mathlib.Core.Bool.{true, true≢false}
 use mathlib.Core.List.{List}
 use lib.ListN.{length}
 use Rattle.pool.specs.Empty.{emptyReply, clearReply}
-use Rattle.pool.specs.Load.{loadReply}
+use Rattle.loading.specs.Load.{loadReply}
 use Rattle.pool.specs.Remove.{removeReply}
 use Rattle.pool.specs.Fetch.{fetchReply, fetchBuffer}
 use Rattle.pool.specs.FetchString.{stringReply, stringBuffer}

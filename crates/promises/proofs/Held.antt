@@ -15,7 +15,7 @@ use Rattle.layout.proofs.Sound.{sound-of}
 use Rattle.layout.proofs.Legal.{Fair, fits-of, of-fits}
 use Rattle.layout.proofs.Holds.{decode-fits, decode-legal, decode-put, put-sound, put-closed}
 use Rattle.pool.specs.Replies.{done}
-use Rattle.pool.specs.Load.{textOf, with, admitted, loadAnswer, loadReply, loadMemory}
+use Rattle.loading.specs.Load.{textOf, with, admitted, loadAnswer, loadReply, loadMemory}
 use Rattle.pool.specs.Remove.{without}
 use Rattle.pool.specs.declared.reply.Reply.the-variants.{Done}
 use Rattle.feeding.specs.Parts.{Open}
@@ -26,7 +26,7 @@ use Rattle.promises.specs.Calls.{leaves}
 use Rattle.promises.proofs.Accepted.{taken-done}
 use Rattle.promises.proofs.Room.{room-without}
 use Rattle.promises.proofs.Proper.{Proper, proper-legal, legal-proper, proper-none, proper-with, proper-without}
-use Rattle.pool.proofs.Admitted.{text-fair}
+use Rattle.loading.proofs.Admitted.{text-fair}
 use Rattle.promises.proofs.Said.{ajar, State, closed, stateOf, sound-size}
 
 -- the memory is undamaged and in this state

@@ -20,7 +20,7 @@ use Rattle.words.specs.Halves.{sum, distinct, all}
 use Rattle.layout.specs.Limits.{WORDS, LONGEST-LOAD}
 use Rattle.layout.specs.Memory.{decode, opens, cutTexts, cutStatements}
 use Rattle.layout.specs.Damage.{sound, allNamed}
-use Rattle.pool.specs.Load.{textOf}
+use Rattle.loading.specs.Load.{textOf}
 use Rattle.feeding.specs.Parts.{Open}
 use Rattle.opening.specs.Storing.{Progress}
 use Rattle.promises.specs.Calls as C

@@ -12,7 +12,8 @@ use Rattle.words.specs.Halves.{all}
 use Rattle.words.proofs.Each.{all-each, each-all}
 use Rattle.layout.specs.State.{Pool}
 use Rattle.pool.specs.Replies.{replyNumber, done, refusing}
-use Rattle.pool.specs.Load.{held, textOf, with, loadAnswer}
+use Rattle.pool.specs.Held.{held}
+use Rattle.loading.specs.Load.{textOf, with, loadAnswer}
 use Rattle.pool.specs.Remove.{without}
 use Rattle.pool.specs.declared.reply.Reply.the-variants.{Done}
 use Rattle.feeding.specs.Parts.{MOST, Open, opening, fed, fedAll, joined}

@@ -8,7 +8,8 @@ use lib.Dec.{eqb}
 use Rattle.plain.specs.Choice.{if_then_else_}
 use Rattle.plain.proofs.Tests.{true-false}
 use Rattle.layout.specs.State.{Text, Pool}
-use Rattle.pool.specs.Load.{held, with}
+use Rattle.pool.specs.Held.{held}
+use Rattle.loading.specs.Load.{with}
 use Rattle.pool.specs.Remove.{without}
 
 -- no label is held twice

@@ -14,7 +14,8 @@ use Rattle.layout.specs.Memory.{decode, opens}
 use Rattle.layout.specs.Damage.{sized, sound}
 use Rattle.pool.specs.Replies.{refusing}
 use Rattle.pool.specs.Empty.{emptyReply, clearReply}
-use Rattle.pool.specs.Load.{held, textOf, with, admitted, loadAnswer, loadReply}
+use Rattle.pool.specs.Held.{held}
+use Rattle.loading.specs.Load.{textOf, with, admitted, loadAnswer, loadReply}
 use Rattle.pool.specs.Remove.{removeReply}
 use Rattle.pool.specs.declared.reply.Reply.{Reply}
 use Rattle.pool.specs.declared.reply.Reply.the-variants as R

@@ -24,7 +24,8 @@ use Rattle.variables.specs.Variables.{variable}
 use Rattle.variables.specs.Found.{foundIn}
 use Rattle.variables.specs.Spelled.{stringOf, spelledIn}
 use Rattle.pool.specs.Empty.{emptyReply, clearReply}
-use Rattle.pool.specs.Load.{held, loadAnswer, loadReply}
+use Rattle.pool.specs.Held.{held}
+use Rattle.loading.specs.Load.{loadAnswer, loadReply}
 use Rattle.pool.specs.Remove.{removeReply}
 use Rattle.pool.specs.Fetch.{fetchReply}
 use Rattle.pool.specs.FetchString.{stringReply}

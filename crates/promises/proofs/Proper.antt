@@ -11,7 +11,8 @@ use Rattle.words.proofs.Halves.{Different}
 use Rattle.plain.proofs.Each.{Each, each-append, each-left, each-right}
 use Rattle.layout.specs.State.{Text, Pool, program}
 use Rattle.layout.proofs.Legal.{labelOf, Fair, Legal, program-append, program-one}
-use Rattle.pool.specs.Load.{held, with}
+use Rattle.pool.specs.Held.{held}
+use Rattle.loading.specs.Load.{with}
 use Rattle.pool.specs.Remove.{without}
 use Rattle.promises.proofs.Labels.{Apart, neither, apart-with, apart-without}
 

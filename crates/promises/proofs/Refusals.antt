@@ -15,7 +15,7 @@ use Rattle.layout.specs.Memory.{decode, put, opens, openLabel}
 use Rattle.layout.specs.Damage.{sound}
 use Rattle.pool.specs.Replies.{replyNumber, fetchedNumber, done, refusing}
 use Rattle.pool.specs.Empty.{emptyReply, clearReply}
-use Rattle.pool.specs.Load.{textOf, with, loadReply, loadMemory}
+use Rattle.loading.specs.Load.{textOf, with, loadReply, loadMemory}
 use Rattle.pool.specs.Remove.{without, removeReply, removeMemory}
 use Rattle.variables.specs.Variables.{variable}
 use Rattle.variables.specs.Found.{doubles, foundIn, filled}

@@ -10,7 +10,7 @@ use Rattle.plain.proofs.Ranges.{within-inside}
 use Rattle.plain.proofs.Tests.{both}
 use Rattle.refusal.specs.Numbers.{numberOf}
 use Rattle.refusal.proofs.Before.{OneOfFive, five-split, others-stay, same-number}
-use Rattle.pool.specs.Load.{loadReply}
+use Rattle.loading.specs.Load.{loadReply}
 use Rattle.pool.specs.Replies.{replyLine}
 use Rattle.pool.specs.declared.reply.Reply.{Reply}
 use Rattle.pool.specs.declared.reply.Reply.the-variants.{Done, Refused}

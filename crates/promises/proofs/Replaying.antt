@@ -9,7 +9,7 @@ use Rattle.words.specs.Halves.{all}
 use Rattle.layout.specs.State.{Pool}
 use Rattle.layout.specs.Limits.{room}
 use Rattle.pool.specs.Replies.{done}
-use Rattle.pool.specs.Load.{textOf, with}
+use Rattle.loading.specs.Load.{textOf, with}
 use Rattle.pool.specs.declared.reply.Reply.{Reply}
 use Rattle.pool.specs.declared.reply.Reply.the-variants.{Done}
 use Rattle.feeding.specs.Parts.{MOST, joined}

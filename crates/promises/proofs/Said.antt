@@ -17,7 +17,8 @@ use Rattle.layout.specs.Damage.{sized, sound}
 use Rattle.layout.proofs.Sound.{sound-of}
 use Rattle.pool.specs.Replies.{refusing}
 use Rattle.pool.specs.Empty.{emptyReply, clearReply}
-use Rattle.pool.specs.Load.{held, loadAnswer, loadReply}
+use Rattle.pool.specs.Held.{held}
+use Rattle.loading.specs.Load.{loadAnswer, loadReply}
 use Rattle.pool.specs.Remove.{removeAnswer, removeReply}
 use Rattle.variables.specs.Variables.{variable}
 use Rattle.variables.specs.Found.{doubles, foundIn, filled}

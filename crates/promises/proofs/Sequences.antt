@@ -10,7 +10,7 @@ use Rattle.plain.proofs.Each.{each-left, each-right}
 use Rattle.words.specs.Halves.{all}
 use Rattle.words.proofs.Each.{all-each, each-all}
 use Rattle.layout.specs.State.{Pool}
-use Rattle.pool.specs.Load.{held}
+use Rattle.pool.specs.Held.{held}
 use Rattle.feeding.specs.Parts.{Open, opening, fed, fedAll, joined}
 use Rattle.opening.specs.Storing.{Progress, start, complete}
 use Rattle.intake.specs.Calls.{areBytes}

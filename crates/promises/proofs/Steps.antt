@@ -14,7 +14,8 @@ use Rattle.layout.proofs.Legal.{fits-of}
 use Rattle.layout.proofs.Holds.{put-closed}
 use Rattle.pool.specs.Replies.{done, refusing}
 use Rattle.pool.specs.Empty.{emptyReply, clearReply}
-use Rattle.pool.specs.Load.{held, textOf, with, loadAnswer, loadReply, loadMemory}
+use Rattle.pool.specs.Held.{held}
+use Rattle.loading.specs.Load.{textOf, with, loadAnswer, loadReply, loadMemory}
 use Rattle.pool.specs.Remove.{without, removeAnswer, removeReply, removeMemory}
 use Rattle.pool.specs.declared.reply.Reply.{Reply}
 use Rattle.pool.specs.declared.reply.Reply.the-variants.{Done}

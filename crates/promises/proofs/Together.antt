@@ -11,7 +11,7 @@ use Rattle.plain.proofs.Each.{Each, each-append, each-right}
 use Rattle.layout.specs.State.{Pool, program, flat}
 use Rattle.layout.specs.Limits.{room, LONGEST-LOAD}
 use Rattle.pool.specs.Replies.{done}
-use Rattle.pool.specs.Load.{textOf, with, admitted}
+use Rattle.loading.specs.Load.{textOf, with, admitted}
 use Rattle.pool.specs.Remove.{without}
 use Rattle.feeding.specs.Parts.{MOST}
 use Rattle.promises.specs.Histories.{Way, whole, inParts, Loaded, loading, removing, Typed, bytesOf, text}

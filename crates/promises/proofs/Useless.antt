@@ -20,7 +20,7 @@ use Rattle.layout.proofs.Legal.{program-one}
 use Rattle.plain.proofs.Tests.{both}
 use Rattle.pool.specs.Replies.{countsTexts, countsStatements}
 use Rattle.layout.specs.Limits.{LONGEST-LOAD}
-use Rattle.pool.specs.Load.{loadAnswer, loadReply}
+use Rattle.loading.specs.Load.{loadAnswer, loadReply}
 use Rattle.pool.specs.Totals.{counts}
 use Rattle.pool.specs.declared.reply.Counts.{Counts}
 use Rattle.pool.specs.declared.reply.Reply.the-variants.{Refused}

@@ -22,7 +22,7 @@ use Rattle.layout.specs.Memory.{decode, cutTexts, cutStatements, put}
 use Rattle.layout.specs.Damage.{sound, allNamed}
 use Rattle.pool.specs.Replies.{refusing, replyNumber}
 use Rattle.pool.specs.Empty.{Empties, Clears, emptyReply, clearReply}
-use Rattle.pool.specs.Load.{Loads, loadReply, loadMemory}
+use Rattle.loading.specs.Load.{Loads, loadReply, loadMemory}
 use Rattle.pool.specs.Remove.{Removes, removeReply}
 use Rattle.pool.specs.Fetch.{Fetches, fetchReply, fetchBuffer}
 use Rattle.pool.specs.FetchString.{FetchesString, stringReply, stringBuffer}

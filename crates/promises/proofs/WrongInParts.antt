@@ -8,7 +8,7 @@ use Rattle.refusal.specs.declared.Refusal.the-variants as Q
 use Rattle.layout.specs.Memory.{decode, opens}
 use Rattle.layout.specs.Damage.{sound}
 use Rattle.pool.specs.Replies.{refusing}
-use Rattle.pool.specs.Load.{held}
+use Rattle.pool.specs.Held.{held}
 use Rattle.pool.specs.declared.reply.Reply.{Reply}
 use Rattle.pool.specs.declared.reply.Reply.the-variants.{Done, Refused}
 use Rattle.opening.specs.Closing.{closeAnswer}

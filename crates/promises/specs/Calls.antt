@@ -18,7 +18,7 @@ use Rattle.pool.specs.declared.reply.Fetched.{Fetched}
 use Rattle.pool.specs.declared.reply.Counts.{Counts}
 use Rattle.pool.specs.declared.reply.Counts.the-variants as T
 use Rattle.pool.specs.Empty.{emptyReply, clearReply, emptied}
-use Rattle.pool.specs.Load.{loadReply, loadMemory}
+use Rattle.loading.specs.Load.{loadReply, loadMemory}
 use Rattle.pool.specs.Remove.{removeReply, removeMemory}
 use Rattle.pool.specs.Fetch.{fetchReply, fetchBuffer}
 use Rattle.pool.specs.FetchString.{stringReply, stringBuffer}

@@ -38,7 +38,8 @@ use Rattle.layout.specs.Limits.{room, LONGEST-LOAD}
 use Rattle.layout.specs.Memory.{decode, opens}
 use Rattle.layout.specs.Damage.{sound}
 use Rattle.pool.specs.Empty.{Empties, Clears}
-use Rattle.pool.specs.Load.{held, textOf, with, Loads}
+use Rattle.pool.specs.Held.{held}
+use Rattle.loading.specs.Load.{textOf, with, Loads}
 use Rattle.pool.specs.Remove.{Removes}
 use Rattle.feeding.specs.Parts.{MOST, joined}
 use Rattle.intake.specs.Opened.{shut}

@@ -12,7 +12,7 @@ use lib.ListN.{length}
 use Rattle.plain.specs.Choice.{if_then_else_}
 use Rattle.layout.specs.State.{Text, Pool}
 use Rattle.layout.specs.Limits.{WORDS}
-use Rattle.pool.specs.Load.{textOf}
+use Rattle.loading.specs.Load.{textOf}
 use Rattle.variables.specs.Variables.{variable}
 use Rattle.variables.specs.Found.{doubles, foundIn, filled}
 use Rattle.variables.specs.Spelled.{stringOf, spelledIn}

@@ -26,7 +26,7 @@ use Rattle.layout.specs.Damage.{sound}
 use Rattle.pool.specs.Replies.{replyColumn, replyNumber, replyLine, done}
 use Rattle.variables.specs.Variables.{variable, allNumbers}
 use Rattle.variables.specs.Found.{doubles}
-use Rattle.pool.specs.Load.{textOf, with, loadAnswer}
+use Rattle.loading.specs.Load.{textOf, with, loadAnswer}
 use Rattle.pool.specs.Remove.{without, removeAnswer}
 use Rattle.globe.specs.Orientation.{orientationFrom, orientationReply}
 use Rattle.globe.specs.Radii.{radiiReply}

@@ -29,7 +29,8 @@ use Rattle.layout.specs.Damage.{sized, sound}
 use Rattle.plain.specs.Bytes.{within}
 use Rattle.variables.specs.Variables.{variable, present, allNumbers, allStrings}
 use Rattle.variables.specs.Spelled.{stringOf}
-use Rattle.pool.specs.Load.{held, textOf, with}
+use Rattle.pool.specs.Held.{held}
+use Rattle.loading.specs.Load.{textOf, with}
 use Rattle.intake.specs.Calls.{areBytes}
 use Rattle.wanted.specs.Elements.{there, numeric, noneThere, complete, allNumeric, wellCounted, list}
 use Rattle.wanted.specs.declared.name.Wanted.the-variants as W

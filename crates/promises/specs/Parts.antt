@@ -8,7 +8,7 @@ use lib.ListN.{length}
 use Rattle.plain.specs.Choice.{if_then_else_}
 use Rattle.layout.specs.Limits.{LONGEST-LOAD}
 use Rattle.layout.specs.Memory.{decode}
-use Rattle.pool.specs.Load.{textOf, with}
+use Rattle.loading.specs.Load.{textOf, with}
 use Rattle.pool.specs.Replies.{done}
 use Rattle.feeding.specs.Parts.{joined}
 use Rattle.opening.specs.Closing.{loadedAnswer}

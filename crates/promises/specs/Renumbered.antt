@@ -9,7 +9,7 @@ use Rattle.plain.specs.Bytes.{within}
 use Rattle.refusal.specs.Numbers.{SUCCESS, numberOf}
 use Rattle.refusal.specs.Before.{SYNTAX, numberBefore}
 use Rattle.refusal.specs.declared.Refusal.{Refusal}
-use Rattle.pool.specs.Load.{loadReply}
+use Rattle.loading.specs.Load.{loadReply}
 use Rattle.pool.specs.Replies.{replyLine}
 use Rattle.pool.specs.declared.reply.Reply.{Reply}
 use Rattle.pool.specs.declared.reply.Reply.the-variants.{Done, Refused}

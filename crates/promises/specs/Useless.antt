@@ -25,7 +25,8 @@ use Rattle.layout.specs.Memory.{decode, opens}
 use Rattle.feeding.specs.Parts.{joined}
 use Rattle.layout.specs.Damage.{sound}
 use Rattle.layout.specs.Limits.{LONGEST-LOAD}
-use Rattle.pool.specs.Load.{held, textOf}
+use Rattle.pool.specs.Held.{held}
+use Rattle.loading.specs.Load.{textOf}
 use Rattle.pool.specs.Totals.{counts}
 use Rattle.pool.specs.declared.reply.Counts.{Counts}
 use Rattle.pool.specs.declared.reply.Reply.the-variants.{Refused}

@@ -5,7 +5,7 @@ use Prim.Native.Nat.{ℕ, _≤_}
 use mathlib.Core.Path.{_≡_}
 use mathlib.Core.Bool.{Bool, true, false}
 use mathlib.Core.List.{List, [], _∷_, _++_}
-use lib.Dec.{eqb, ltb}
+use lib.Dec.{ltb}
 use lib.ListN.{length}
 use Rattle.plain.specs.Choice.{if_then_else_}
 use Rattle.refusal.specs.declared.Refusal.the-variants.{LabelHeld, TextTooLong, NoRoom, DamagedPool, TextOpen}
@@ -17,14 +17,10 @@ use Rattle.layout.specs.State.{Text, Pool, flat, valuesOf, bytesOf}
 use Rattle.layout.specs.Limits.{room, LONGEST-LOAD}
 use Rattle.layout.specs.Memory.{decode, put, opens}
 use Rattle.layout.specs.Damage.{sound}
+use Rattle.pool.specs.Held.{held}
 use Rattle.pool.specs.Replies.{done, refusing}
 use Rattle.pool.specs.declared.reply.Reply.{Reply}
 use Rattle.pool.specs.declared.reply.Reply.the-variants.{Done, Refused}
-
--- the label is held
-unfoldable pub held : ℕ → Pool → Bool
-held label [] = false
-held label (t ∷ ts) = if eqb (t .label) label then true else held label ts
 
 -- the text under its label
 unfoldable pub textOf : (label : ℕ) (bytes : List ℕ) → Text

@@ -20,8 +20,8 @@ use Rattle.layout.proofs.Codec.{length-laid-names}
 use Rattle.layout.proofs.Holds.{inkedAt, length-laid-heads}
 use Rattle.page.specs.Writing.{Page, page, bareHead, openedOn, storedAll, toldOn, givenOn, writtenOn}
 use Rattle.page.specs.declared.pen.Pen.{Pen}
 use Rattle.pool.proofs.Inking.{ink-length, ink-over, ink-append}
-use Rattle.pool.proofs.Kept.{wordIn, lettersIn, toldHead, headAfter, statementOf, Keeps, keeps, Whole}
+use Rattle.loading.proofs.Kept.{wordIn, lettersIn, toldHead, headAfter, statementOf, Keeps, keeps, Whole}
 
 abbrev heads : List Statement → List ℕ
 heads ss = flat (λ x. headWord x ∷ []) ss

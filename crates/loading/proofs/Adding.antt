@@ -23,14 +23,14 @@ use Rattle.layout.proofs.Holds.{holds-decode, perText, perStatement, inkedAt, t
 use Rattle.layout.proofs.Legal.{fits-of}
 use Rattle.layout.proofs.Sound.{sound-of}
 use Rattle.layout.proofs.Spelling.{length-words}
-use Rattle.pool.specs.Load.{textOf, with, Counted, Accepts}
+use Rattle.loading.specs.Load.{textOf, with, Counted, Accepts}
 use Rattle.page.specs.Writing.{Page, page, penBehind, writtenOn}
 use Rattle.writing.specs.Pens.{Admits}
 use Rattle.page.specs.declared.pen.Pen.{Pen}
 use Rattle.pool.proofs.Inking.{ink-none, ink-over}
-use Rattle.pool.proofs.Kept.{read-whole}
-use Rattle.pool.proofs.Laid.{laidOn, Apart, Even, all-written}
-use Rattle.pool.proofs.Rooms.{Leaves, fits-leaves, texts-with, statements-with, values-with, bytes-with}
+use Rattle.loading.proofs.Kept.{read-whole}
+use Rattle.loading.proofs.Laid.{laidOn, Apart, Even, all-written}
+use Rattle.loading.proofs.Rooms.{Leaves, fits-leaves, texts-with, statements-with, values-with, bytes-with}
 
 -- ---- the counts of an admitted text
 

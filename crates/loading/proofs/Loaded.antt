@@ -19,12 +19,13 @@ use Rattle.layout.specs.Damage.{sound}
 use Rattle.layout.proofs.Holds.{decode-legal, decode-put, put-sound}
 use Rattle.layout.proofs.Legal.{Fair, Legal, fits-of, legal-add}
 use Rattle.layout.proofs.Sound.{sound-of}
 use Rattle.pool.specs.Replies.{done, refusing}
 use Rattle.pool.specs.declared.reply.Reply.{Reply}
-use Rattle.pool.specs.Load.{held, textOf, with, admitted, loadAnswer, loadReply, loadMemory}
-use Rattle.pool.proofs.Adding.{body-read}
-use Rattle.pool.proofs.Admitted.{text-fair}
-use Rattle.pool.proofs.Loading.{label-asked, length-asked, text-asked}
+use Rattle.pool.specs.Held.{held}
+use Rattle.loading.specs.Load.{textOf, with, admitted, loadAnswer, loadReply, loadMemory}
+use Rattle.loading.proofs.Adding.{body-read}
+use Rattle.loading.proofs.Admitted.{text-fair}
+use Rattle.loading.proofs.Loading.{label-asked, length-asked, text-asked}
 
 -- ---- a label that is not held
 

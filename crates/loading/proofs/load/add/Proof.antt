@@ -3,9 +3,9 @@ use native.Mathlib.Omega.{arith}
 use borrow.Author.Needs.{needs}
 use Rattle.words.proofs.Each.{words-of}
 use Rattle.layout.proofs.Sound.{sound-of}
-use Rattle.pool.proofs.Adding.{leaves, admits, sized, added-put}
-use Rattle.pool.proofs.load.add.Statement.{statement}
-use Rattle.pool.proofs.load.add.Tie as tie
+use Rattle.loading.proofs.Adding.{leaves, admits, sized, added-put}
+use Rattle.loading.proofs.load.add.Statement.{statement}
+use Rattle.loading.proofs.load.add.Tie as tie
 
 -- the function's entry, seen from where the pen is known, and from where the text is written
 abbrev entry : tie.After-pen-behind → tie.Start

@@ -1,6 +1,4 @@
 // Load: "A text is accepted exactly when its label is not held, the rules admit it and the undamaged pool has room."
-use crate::reply::Reply;
-use layout::area::texts_of;
 use layout::check::is_open;
 use layout::check::is_sound;
 use layout::front::write_front;
@@ -15,11 +13,12 @@ use layout::limits::TEXTS_AT;
 use layout::limits::VALUE_COUNT;
 use layout::limits::VALUES;
 use page::pen::pen_behind;
+use pool::held::is_held;
+use pool::reply::Reply;
 use refusal::Refusal;
 use text::Checked;
 use text::check;
 use value::faults::refusal_of;
-use words::scan::place_of;
 use words::write::store;
 use writing::write::write_text;
 ghost use mathlib.Core.Path.{_≡_};
@@ -28,7 +27,8 @@ ghost use Rattle.layout.specs.State.{Text};
 ghost use Rattle.layout.specs.Limits.{room};
 ghost use Rattle.layout.specs.Memory.{decode, put};
 ghost use Rattle.layout.specs.Damage.{Framed, sound};
-ghost use Rattle.pool.specs.Load.{Loads, Counted, held, with, textOf, Accepts};
+ghost use Rattle.pool.specs.Held.{held};
+ghost use Rattle.loading.specs.Load.{Loads, Counted, with, textOf, Accepts};
 
 // The longest text, in bytes.
 const LONGEST_LOAD: usize = 65536;
@@ -62,15 +62,6 @@ pub fn load(pool: &mut [u64], label: u32, text: &[u8]) -> Reply
             Reply::Refused(refusal_of(fault), line, place + 1)
         }
     }
-}
-
-// A text is held under the label.
-pub fn is_held(pool: &[u64], label: u32) -> bool
-    requires { ⌜ Framed (now pool) ⌝ }
-    ensures { λ r. ⌜ r ≡ held label (decode (now (pool .entry))) ⌝ }
-{
-    let texts = texts_of(pool);
-    place_of(texts, label as u64) < texts.len()
 }
 
 // There is room for a text more, of so many statements, values and bytes in strings.

@@ -1,9 +1,9 @@
 -- `has_room` meets its contract: each test is one limit, and the totals are what is held. Assumes nothing.
 use native.Mathlib.Omega.{arith}
 use Rattle.layout.proofs.Sound.{sound-of}
-use Rattle.pool.proofs.Rooms.{has-room, no-room}
-use Rattle.pool.proofs.load.has_room.Statement.{statement}
-use Rattle.pool.proofs.load.has_room.Tie as tie
+use Rattle.loading.proofs.Rooms.{has-room, no-room}
+use Rattle.loading.proofs.load.has_room.Statement.{statement}
+use Rattle.loading.proofs.load.has_room.Tie as tie
 
 shared-slice-read-if1 : tie.Need-shared-slice-read-if1
 shared-slice-read-if1 c = omega (arith, sound-of _ (c .before .pre) .sizes .words)

@@ -13,7 +13,7 @@ use Rattle.layout.specs.Damage.{sound}
 use Rattle.layout.proofs.Holds.{length-decode, length-program, length-held, length-bytes-held}
 use Rattle.layout.proofs.Legal.{Fits, fits-of, of-fits, program-append, program-one, values-append, bytes-append}
 use Rattle.layout.proofs.Sound.{sound-of}
-use Rattle.pool.specs.Load.{with, Counted}
+use Rattle.loading.specs.Load.{with, Counted}
 
 -- the counts of a state with a text more
 module _ (s : Pool) (t : Text) where

@@ -21,10 +21,11 @@ use Rattle.layout.specs.State.{Pool}
 use Rattle.layout.specs.Limits.{room, LONGEST-LOAD}
 use Rattle.layout.specs.Memory.{decode, opens, put}
 use Rattle.layout.specs.Damage.{sound}
 use Rattle.pool.specs.Replies.{refusing}
-use Rattle.pool.specs.Load.{held, textOf, with, Counted, admitted, loadAnswer, loadReply, loadMemory, Loads, Accepts}
+use Rattle.pool.specs.Held.{held}
+use Rattle.loading.specs.Load.{textOf, with, Counted, admitted, loadAnswer, loadReply, loadMemory, Loads, Accepts}
 use Rattle.pool.specs.declared.reply.Reply.the-variants.{Done, Refused}
-use Rattle.pool.proofs.Adding.{body-counted}
+use Rattle.loading.proofs.Adding.{body-counted}
 
 -- ---- what the first pass tells of the text
 

@@ -1,8 +1,8 @@
 -- `is_held` meets its contract: the label is found among the texts' words exactly when it is held. Assumes nothing.
 use borrow.Author.Needs.{needs}
 use Rattle.pool.proofs.Labels.{held-placed}
-use Rattle.pool.proofs.load.is_held.Statement.{statement}
-use Rattle.pool.proofs.load.is_held.Tie as tie
+use Rattle.pool.proofs.held.is_held.Statement.{statement}
+use Rattle.pool.proofs.held.is_held.Tie as tie
 
 texts-of-requires : tie.Need-texts-of-requires
 texts-of-requires c κs = search needs

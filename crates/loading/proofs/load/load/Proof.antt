@@ -9,10 +9,10 @@ use borrow.Author.Tests.{not-true, not-false}
 use Rattle.layout.specs.Memory.{decode, opens}
 use Rattle.layout.specs.Damage.{sound}
 use Rattle.layout.proofs.Sound.{sound-of}
-use Rattle.pool.specs.Load.{held}
-use Rattle.pool.proofs.Loading.{text-counted, damaged, text-open, label-held, too-long, faulty, no-room, accepts, done, place-fits}
-use Rattle.pool.proofs.load.load.Statement.{statement}
-use Rattle.pool.proofs.load.load.Tie as tie
+use Rattle.pool.specs.Held.{held}
+use Rattle.loading.proofs.Loading.{text-counted, damaged, text-open, label-held, too-long, faulty, no-room, accepts, done, place-fits}
+use Rattle.loading.proofs.load.load.Statement.{statement}
+use Rattle.loading.proofs.load.load.Tie as tie
 
 -- ---- what is known past each test
 

@@ -1,0 +1,2 @@
+-- Load: what it answers, and the memory that it leaves.
+pub mod Load
