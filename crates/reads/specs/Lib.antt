@@ -1,0 +1,2 @@
+-- The names that a query may read.
+pub mod Names
