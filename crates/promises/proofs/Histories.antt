@@ -85,6 +85,12 @@ pub replay : Replay library
 unfolding after all
 replay m m′ f f′ history c t o = onward m m′ f f′ history [] c t refl o
 
+-- what a query answers after it, also while a text is open
+pub answered : (m : List ℕ) → Fresh library m → (history : List Call) (c : Call) → Typed history → query c ≡ true
+    → asked c (after library history m) ≡ says c (closed (texts library history m))
+answered m f history c t q =
+    asked-is c (after library history m) _ (ends m f history t .is) ∙ query-says c (stateFor (still library history m nothing)) q
+
 pub of-held-texts : OfHeldTexts library
 unfolding says
 of-held-texts =
@@ -93,8 +99,3 @@ of-held-texts =
       strings = λ m f history name place buffer t. answered m f history (C.fetchString name place buffer) t refl;
       sums = λ m f history t. answered m f history C.totals t refl;
     }
-  where
-    answered : (m : List ℕ) → Fresh library m → (history : List Call) (c : Call) → Typed history → query c ≡ true
-        → asked c (after library history m) ≡ says c (closed (texts library history m))
-    answered m f history c t q =
-        asked-is c (after library history m) _ (ends m f history t .is) ∙ query-says c (stateFor (still library history m nothing)) q

@@ -1,0 +1,1 @@
+// A text that a query does not read moves nothing: laws alone.
