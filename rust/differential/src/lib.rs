@@ -24,6 +24,7 @@ mod tally;
 mod text_parts;
 pub mod texts;
 mod twin_side;
+pub mod unread;
 
 pub use random::Random;
 pub use tally::Tally;

@@ -6,7 +6,7 @@ use std::path::Path;
 
 use differential::{
     damage, decimals, degrees, drive, histories, kernels, long_numbers, orientations, parts, radii,
-    strings, texts, Random, Tally,
+    strings, texts, unread, Random, Tally,
 };
 
 const SEED: u64 = 2000;
@@ -119,6 +119,17 @@ fn radii_that_are_replaced() {
     let tally = radii::run(&mut Random::new(SEED), 20_000);
     report("radii that are replaced", &tally);
     tally.expect([0, 12, 24], LEAST_AT_HOME);
+}
+
+#[test]
+fn texts_that_are_not_read() {
+    let tally = unread::run(&mut Random::new(SEED), 1_500);
+    report(
+        "answers while texts that are not read come, go and move",
+        &tally,
+    );
+    tally.expect([0, 9, 10, 11, 12, 16, 23, 24], LEAST);
+    tally.expect([0], LEAST_AT_HOME);
 }
 
 #[test]

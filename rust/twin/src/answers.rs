@@ -139,7 +139,7 @@ pub fn radii(pool: &[u64], code: u32) -> Result<[f64; RADII_VALUES], Refusal> {
 }
 
 /// The system whose angles a body uses: the hundreds of its code, or the code itself up to 10.
-fn system(code: u32) -> Option<u32> {
+pub(crate) fn system(code: u32) -> Option<u32> {
     match code {
         1..=10 => Some(code),
         100..=999 => Some(code / 100),

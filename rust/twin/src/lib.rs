@@ -15,6 +15,7 @@ pub mod nearest;
 mod opened;
 pub mod parts;
 pub mod pool;
+pub mod reads;
 pub mod refusal;
 pub mod rotation;
 mod storing;

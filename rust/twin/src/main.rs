@@ -7,7 +7,7 @@ use std::io::{self, Read, Write};
 use std::process::ExitCode;
 
 const SUBCOMMANDS: &str =
-    "subcommands: orientations, turns, texts-input, texts, histories-input, histories, listing";
+    "subcommands: orientations, turns, texts-input, texts, histories-input, histories, reads, listing";
 
 fn main() -> ExitCode {
     let subcommand = env::args().nth(1).unwrap_or_default();
@@ -29,6 +29,7 @@ fn run(subcommand: &str) -> io::Result<()> {
         "texts" => program::texts::write(&input()?, &mut out)?,
         "histories-input" => program::histories::write_input(&mut out)?,
         "histories" => program::histories::write(&input()?, &mut out)?,
+        "reads" => program::reads::write(&input()?, &mut out)?,
         "listing" => program::listing::write(&mut out)?,
         _ => return Err(io::Error::new(io::ErrorKind::InvalidInput, SUBCOMMANDS)),
     }

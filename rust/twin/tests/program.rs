@@ -55,6 +55,16 @@ fn turns_meet_every_answer() {
     }
 }
 
+#[test]
+fn reads_have_nine_lines_for_a_code() {
+    let all = lines(&twin("reads", b"499\n11\n+4\n\n4294967296\n10"));
+    assert_eq!(all.len(), 9 + 1 + 9);
+    assert_eq!(all[6], "499 orientation BODY4_NUT_PREC_ANGLES");
+    assert_eq!(all[8], "499 radii BODY499_RADII");
+    assert_eq!(all[9], "11 none");
+    assert_eq!(all[17], "10 orientation BODY10_MAX_PHASE_DEGREE");
+}
+
 /// What the programs of the library read of their input.
 const INPUT_BYTES: usize = 400_000;
 

@@ -7,13 +7,13 @@ use std::time::{Duration, Instant};
 
 use differential::{
     damage, decimals, degrees, drive, histories, kernels, long_numbers, orientations, parts, radii,
-    strings, texts, Random, Tally,
+    strings, texts, unread, Random, Tally,
 };
 
 /// One kind of comparison: its name, what it runs, and how much of it in a round.
 type Kind = (&'static str, fn(&mut Random, usize) -> Tally, usize);
 
-const KINDS: [Kind; 15] = [
+const KINDS: [Kind; 16] = [
     ("generated texts", texts::run, 20_000),
     ("texts cut at every byte", parts::run_cuts, 20),
     ("calls on texts in parts", parts::run, 1_000),
@@ -30,6 +30,7 @@ const KINDS: [Kind; 15] = [
     ("long numbers", long_numbers::run, 200_000),
     ("strings in quotes", strings::run, 10_000),
     ("radii that are replaced", radii::run, 2_000),
+    ("texts that are not read", unread::run, 1_000),
     ("positions and moves", drive::run, 2_000),
     ("calls on changed pools", damage::run, 1_000),
     ("calls on kernels", kernels::run, 10),

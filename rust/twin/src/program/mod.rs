@@ -11,6 +11,7 @@ pub mod history_strings;
 pub mod listing;
 pub mod orientations;
 pub mod random;
+pub mod reads;
 pub mod script;
 pub mod stream;
 pub mod text_places;
