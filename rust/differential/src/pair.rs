@@ -44,10 +44,12 @@ impl Pair {
     /// Gives both sides these words.
     pub fn set(&mut self, words: &[u64]) {
         for memory in [&mut self.library, &mut self.twin] {
-            memory.clear();
-            memory.extend([GUARD_WORD; GUARD]);
-            memory.extend_from_slice(words);
-            memory.extend([GUARD_WORD; GUARD]);
+            memory.resize(words.len() + 2 * GUARD, GUARD_WORD);
+            let (before, rest) = memory.split_at_mut(GUARD);
+            let (inside, after) = rest.split_at_mut(words.len());
+            before.fill(GUARD_WORD);
+            rewrite(inside, words);
+            after.fill(GUARD_WORD);
         }
     }
 
@@ -72,7 +74,8 @@ impl Pair {
     pub fn ask(&mut self, call: &Call) -> Answer {
         self.library_buffers.prepare(call);
         self.twin_buffers.prepare(call);
-        self.before.clone_from(&self.library);
+        self.before.resize(self.library.len(), GUARD_WORD);
+        rewrite(&mut self.before, &self.library);
 
         let inside = self.inside();
         let answer = library::answer(
@@ -83,18 +86,42 @@ impl Pair {
         let expected = twin_side::answer(call, &mut self.twin[inside], &mut self.twin_buffers);
 
         assert_eq!(answer, expected, "the library and the twin differ: {call}");
-        if self.library != self.twin {
+        if !same(&self.library, &self.twin) {
             self.fail(call, &self.twin, "the library's memory is not the twin's");
         }
         if answer.number != 0 && call.ends_open_text(answer.number) {
             self.before[GUARD + OPEN] = 0;
         }
-        if (answer.number != 0 || !call.writes()) && self.library != self.before {
+        if (answer.number != 0 || !call.writes()) && !same(&self.library, &self.before) {
             self.fail(call, &self.before, "memory changed that should be left");
         }
         self.library_buffers
             .compare(&self.twin_buffers, call, &answer);
         answer
+    }
+
+    /// Feeds an open text with parts on both sides. It fails unless each is taken, and unless both
+    /// memories are equal behind the last.
+    pub fn feed<'a>(&mut self, parts: impl IntoIterator<Item = &'a [u8]>) {
+        let inside = self.inside();
+        let mut last: &[u8] = b"";
+        for part in parts {
+            last = part;
+            let call = Call::Feed { part };
+            let library = &mut self.library[inside.clone()];
+            let twin = &mut self.twin[inside.clone()];
+            let answer = library::answer(&call, library, &mut self.library_buffers);
+            let expected = twin_side::answer(&call, twin, &mut self.twin_buffers);
+            assert_eq!(
+                (answer.number, expected.number),
+                (0, 0),
+                "a part is refused: {call}"
+            );
+        }
+        if !same(&self.library, &self.twin) {
+            let call = Call::Feed { part: last };
+            self.fail(&call, &self.twin, "the library's memory is not the twin's");
+        }
     }
 
     fn inside(&self) -> Range<usize> {
@@ -113,6 +140,21 @@ impl Pair {
             wanted[place]
         );
     }
+}
+
+/// Gives a memory other words, of which most are there already: where an emulator runs this, to look
+/// at a word costs a small part of copying it in a block.
+fn rewrite(memory: &mut [u64], words: &[u64]) {
+    for (word, wanted) in memory.iter_mut().zip(words) {
+        if *word != *wanted {
+            *word = *wanted;
+        }
+    }
+}
+
+/// The words are the same, looked at one by one as above.
+pub fn same(ours: &[u64], wanted: &[u64]) -> bool {
+    ours.len() == wanted.len() && ours.iter().zip(wanted).all(|(a, b)| a == b)
 }
 
 /// The words that the held texts of a pool have in use, and the bytes of their strings.

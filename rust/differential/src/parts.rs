@@ -8,7 +8,7 @@ use crate::bodies;
 use crate::call::{Answer, Call};
 use crate::epochs::epoch;
 use crate::kernels::KERNELS;
-use crate::pair::{in_use, Pair, ROOM, STRING_ROOM};
+use crate::pair::{in_use, same, Pair, ROOM, STRING_ROOM};
 use crate::random::Random;
 use crate::tally::Tally;
 use crate::text_parts::name;
@@ -17,43 +17,56 @@ use crate::texts::{one_pool, pools, text};
 /// The label of texts in parts; pools here hold only smaller ones.
 const LABEL: u32 = 1000;
 
-/// The bytes of texts that are cut at every place.
-const SHORT: usize = 240;
+/// Texts of up to so many bytes are cut at every place. Of longer ones as many bytes are fed in all.
+const EVERY_PLACE: usize = 2_000;
 
-/// Cuts so many short texts at every byte into two parts, feeds each byte by byte, and tells how
-/// their closings were answered.
+/// Texts of fewer bytes are fed byte by byte, longer ones in this many parts.
+const BYTE_BY_BYTE: usize = 16_384;
+
+/// Cuts so many texts of all kinds at every byte into two parts, feeds each byte by byte, and tells
+/// how their closings were answered.
 pub fn run_cuts(random: &mut Random, texts: usize) -> Tally {
     let mut tally = Tally::default();
     let pools = pools(random);
     let mut pair = Pair::new(&pools[0]);
     for _ in 0..texts {
         let start = one_pool(&pools, random);
-        let text = short_text(random);
+        let text = cut_text(random);
         let opened = opened(&mut pair, start);
-        let whole = fed(&mut pair, &opened, [&text[..]]);
-        for cut in 0..=text.len() {
+        pair.feed([&text[..]]);
+        let whole = pair.words().to_vec();
+        for cut in cuts(random, text.len()) {
             let (first, second) = text.split_at(cut);
-            let words = fed(&mut pair, &opened, [first, second]);
-            assert!(words == whole, "cut at {cut}: {}", text.escape_ascii());
+            pair.set(&opened);
+            pair.feed([first, second]);
+            let equal = same(pair.words(), &whole);
+            assert!(equal, "cut at {cut}: {}", text.escape_ascii());
         }
-        let words = fed(&mut pair, &opened, text.chunks(1));
-        assert!(words == whole, "byte by byte: {}", text.escape_ascii());
+        pair.set(&opened);
+        pair.feed(text.chunks(1 + text.len() / BYTE_BY_BYTE));
+        let equal = same(pair.words(), &whole);
+        assert!(equal, "byte by byte: {}", text.escape_ascii());
         tally.add(close_as_a_load(&mut pair, start, &text).number);
     }
     tally
 }
 
-/// A text that is cut at every place, every fourth time with a delimiter among many blanks.
-fn short_text(random: &mut Random) -> Vec<u8> {
-    if random.once_in(4) {
-        return padded_delimiter(random, 2 * SHORT);
+/// A text that is cut, every sixth time a delimiter among many blanks.
+fn cut_text(random: &mut Random) -> Vec<u8> {
+    if random.once_in(6) {
+        padded_delimiter(random, 480)
+    } else {
+        text(random)
     }
-    loop {
-        let text = text(random);
-        if text.len() <= SHORT {
-            return text;
-        }
+}
+
+/// Every place of a text of so many bytes, or as many by chance as are fed soon enough.
+fn cuts(random: &mut Random, bytes: usize) -> Vec<usize> {
+    if bytes <= EVERY_PLACE {
+        return (0..=bytes).collect();
     }
+    let count = EVERY_PLACE * EVERY_PLACE / bytes;
+    (0..count).map(|_| random.below(bytes + 1)).collect()
 }
 
 /// Feeds so many texts in parts of random lengths, with other calls between them, and tells how all

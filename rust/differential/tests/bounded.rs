@@ -41,19 +41,16 @@ fn call_histories() {
     tally.expect([8, 13, 14, 16], LEAST_AT_HOME);
 }
 
-/// How much is fed in parts; each text makes hundreds of calls, so that a little goes a long way.
-const PARTS_VOLUME: usize = 1;
-
 #[test]
 fn texts_cut_at_every_byte() {
-    let tally = parts::run_cuts(&mut Random::new(SEED), 60 * PARTS_VOLUME);
+    let tally = parts::run_cuts(&mut Random::new(SEED), 400);
     report("texts cut at every byte", &tally);
-    tally.expect([0, 3], 1);
+    tally.expect([0, 7].into_iter().chain(PLACED), 2);
 }
 
 #[test]
 fn texts_in_parts() {
-    let tally = parts::run(&mut Random::new(SEED), 4_000 * PARTS_VOLUME);
+    let tally = parts::run(&mut Random::new(SEED), 8_000);
     report("calls on texts in parts", &tally);
     tally.expect([0, 22].into_iter().chain(PLACED), 30);
     tally.expect([7], LEAST);
@@ -61,7 +58,7 @@ fn texts_in_parts() {
 
 #[test]
 fn texts_of_megabytes() {
-    let tally = parts::run_long(&mut Random::new(SEED), 12 * PARTS_VOLUME);
+    let tally = parts::run_long(&mut Random::new(SEED), 12);
     report("texts of megabytes", &tally);
     tally.expect([0, 2, 3], 1);
 }
