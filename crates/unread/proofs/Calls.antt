@@ -23,7 +23,7 @@ use Rattle.promises.specs.Calls as C
 use Rattle.promises.specs.Calls.{Call, asked, leaves, library, typed}
 use Rattle.promises.specs.Histories.{inParts, coming, after, fedUnder, texts}
 use Rattle.promises.proofs.Said.{ajar, State, closed, stateOf, wantingNone, openAnswer, says}
-use Rattle.promises.proofs.Held.{Is, unchanged, still-shut, room-decoded}
+use Rattle.promises.proofs.Held.{Is, shut-of, unchanged, still-shut, room-decoded}
 use Rattle.promises.proofs.Steps.{step, leaves-is, no-damage}
 use Rattle.promises.proofs.Sequences.{steps, steps-opened, typed-parts, asked-is, is-step, is-after}
 use Rattle.promises.proofs.Parts.{heldThen, closing-steps}
@@ -109,10 +109,6 @@ removal-moves-nothing q m u label e =
     (either q (done (wantingNone (stateOf m .opened) (removeAnswer label (decode m)))) (closed (without label (decode m))) (stateOf m) (decode m)
     (containing-without (names q) label (decode m) e) refl)
 
-pub reload-moves-nothing : ReloadMovesNothing library
-reload-moves-nothing q m u label bytes e f =
-    load-moves-nothing q (leaves (C.remove label) m) (no-damage (C.remove label) m u) label bytes f ∙ removal-moves-nothing q m u label e
-
 -- ---- a text in parts
 
 -- neither opening nor feeding touches the texts
@@ -197,16 +193,41 @@ parts-move-nothing = record {
   dropped = λ q m u. by-step q m C.dropLoad u refl refl;
 }
 
+-- ---- taken out and brought again
+
+shut-removed : (label : ℕ) (m : List ℕ) → sound m ≡ true → opens m ≡ false → opens (leaves (C.remove label) m) ≡ false
+unfolding step
+shut-removed label m u o =
+    by (done (removeAnswer label (decode m))) (is-step (C.remove label) m (closed (decode m)) refl (still-shut m u o) .state)
+  where
+    by : (b : Bool) → stateOf (leaves (C.remove label) m) ≡ (if b then closed (without label (decode m)) else closed (decode m))
+        → opens (leaves (C.remove label) m) ≡ false
+    by true e = shut-of (leaves (C.remove label) m) (without label (decode m)) e
+    by false e = shut-of (leaves (C.remove label) m) (decode m) e
+
+pub reload-moves-nothing : ReloadMovesNothing library
+reload-moves-nothing = record {
+  loaded = λ q m u label bytes e f.
+      load-moves-nothing q (leaves (C.remove label) m) (no-damage (C.remove label) m u) label bytes f ∙ removal-moves-nothing q m u label e;
+  fed = λ q m u label parts e t o f.
+      came-moves-nothing q (leaves (C.remove label) m) (no-damage (C.remove label) m u) label parts t f (shut-removed label m u o)
+      ∙ removal-moves-nothing q m u label e;
+}
+
 -- ---- two pools
 
-pub moving-moves-nothing : MovingMovesNothing library
-moving-moves-nothing q m m′ u u′ front middle back t e d d′ =
+-- one text from a place to another
+pub moved-alike : (q : Query) (front middle back : Pool) (t : Text) → contains (names q) t ≡ false
+    → Alike q (front ++ (t ∷ (middle ++ back))) (front ++ (middle ++ (t ∷ back)))
+moved-alike q front middle back t e =
     let ns = names q in
     let a = containing-between ns front (middle ++ back) t e in
     let b = containing-between ns (front ++ middle) back t e in
-    independent q m m′ u u′
-    (ap (containing ns) d ∙ a
-    ∙ sym (ap (containing ns) (d′ ∙ sym (append-assoc front middle (t ∷ back))) ∙ b ∙ ap (containing ns) (append-assoc front middle back)))
+    a ∙ sym (ap (containing ns) (sym (append-assoc front middle (t ∷ back))) ∙ b ∙ ap (containing ns) (append-assoc front middle back))
+
+pub moving-moves-nothing : MovingMovesNothing library
+moving-moves-nothing q m m′ u u′ front middle back t e d d′ =
+    independent q m m′ u u′ (ap (containing (names q)) d ∙ moved-alike q front middle back t e ∙ sym (ap (containing (names q)) d′))
 
 is-query : (q : Query) → C.query (call q) ≡ true
 is-query (orientationOf source code epoch) = refl

@@ -94,12 +94,17 @@ RemovalMovesNothing b =
     (q : Query) (m : List ℕ) → sound m ≡ true → (label : ℕ) → containsUnder (names q) label (decode m) ≡ false
     → b .answer (call q) (b .memory (C.remove label) m) ≡ b .answer (call q) m
 
--- "re-ordering" by calls: such a text taken out and loaded again, which puts it last
-abbrev pub ReloadMovesNothing : Build → Type 0
-ReloadMovesNothing b =
-    (q : Query) (m : List ℕ) → sound m ≡ true → (label : ℕ) (bytes : List ℕ) → containsUnder (names q) label (decode m) ≡ false
-    → contains (names q) (textOf label bytes) ≡ false
-    → b .answer (call q) (b .memory (C.load label bytes) (b .memory (C.remove label) m)) ≡ b .answer (call q) m
+-- "re-ordering" by calls: such a text taken out and brought again, which puts it last
+pub record ReloadMovesNothing (b : Build) : Type 0 where
+  pub loaded :
+      (q : Query) (m : List ℕ) → sound m ≡ true → (label : ℕ) (bytes : List ℕ) → containsUnder (names q) label (decode m) ≡ false
+      → contains (names q) (textOf label bytes) ≡ false
+      → b .answer (call q) (b .memory (C.load label bytes) (b .memory (C.remove label) m)) ≡ b .answer (call q) m
+  -- in parts, where none is open
+  pub fed :
+      (q : Query) (m : List ℕ) → sound m ≡ true → (label : ℕ) (parts : List (List ℕ)) → containsUnder (names q) label (decode m) ≡ false
+      → areBytes (joined parts) ≡ true → opens m ≡ false → contains (names q) (textOf label (joined parts)) ≡ false
+      → b .answer (call q) (after b (coming label (inParts parts)) (b .memory (C.remove label) m)) ≡ b .answer (call q) m
 
 -- "re-ordering": such a text from any place to any other
 abbrev pub MovingMovesNothing : Build → Type 0
@@ -148,19 +153,6 @@ reached (radiiOf source code) = true
 -- every name of the list does
 abbrev pub AllCount : Build → Type 0
 AllCount b = (q : Query) → reached q ≡ true → Each (Counts b q) (names q)
-
--- ---- all of it
-
-pub record Unread (b : Build) : Type 0 where
-  pub independent : Independent b
-  pub loads : LoadMovesNothing b
-  pub parts : PartsMoveNothing b
-  pub removals : RemovalMovesNothing b
-  pub reloads : ReloadMovesNothing b
-  pub moves : MovingMovesNothing b
-  pub after : IndependentAfter b
-  pub noOther : NoOtherCounts b
-  pub each : AllCount b
 
 -- ---- the drive
 
