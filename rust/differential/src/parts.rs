@@ -17,10 +17,11 @@ use crate::texts::{one_pool, pools, text};
 /// The label of texts in parts; pools here hold only smaller ones.
 const LABEL: u32 = 1000;
 
-/// Texts of up to so many bytes are cut at every place. Of longer ones as many bytes are fed in all.
+/// Texts of up to so many bytes are cut at every place, longer ones at fewer places by chance, so that
+/// no more bytes are fed.
 const EVERY_PLACE: usize = 2_000;
 
-/// Texts of fewer bytes are fed byte by byte, longer ones in this many parts.
+/// Texts of fewer bytes are fed byte by byte, longer ones in no more parts than this.
 const BYTE_BY_BYTE: usize = 16_384;
 
 /// Cuts so many texts of all kinds at every byte into two parts, feeds each byte by byte, and tells
