@@ -39,7 +39,8 @@ pub fn run_cuts(random: &mut Random, texts: usize) -> Tally {
         for cut in cuts(random, text.len()) {
             let (first, second) = text.split_at(cut);
             pair.set(&opened);
-            pair.feed([first, second]);
+            pair.feed([first]);
+            pair.feed([second]);
             let equal = same(pair.words(), &whole);
             assert!(equal, "cut at {cut}: {}", text.escape_ascii());
         }
