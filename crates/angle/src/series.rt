@@ -8,7 +8,7 @@ const SINE: [f64; 7] = [210.0, 156.0, 110.0, 72.0, 42.0, 20.0, 6.0];
 
 const COSINE: [f64; 8] = [240.0, 182.0, 132.0, 90.0, 56.0, 30.0, 12.0, 2.0];
 
-#[derive(Drop)]
+#[derive(Clone, Copy)]
 pub enum Series {
     Sine,
     Cosine,

@@ -5,7 +5,7 @@ ghost use Rattle.angle.specs.Sine.{core, sine_cosine};
 use super::{series, wrap};
 
 // A sine and a cosine.
-#[derive(Drop)]
+#[derive(Clone, Copy)]
 pub struct SineCosine(pub f64, pub f64);
 
 // The sine and the cosine of x degrees.

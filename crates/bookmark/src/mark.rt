@@ -4,7 +4,7 @@ use statement::values::Reader;
 use value::faults::Fault;
 
 // What its complete lines came to: they are stored so far; there is no room for them, but they are read on; or one is faulty, at a place of it.
-#[derive(Drop)]
+#[derive(Clone, Copy)]
 pub enum Standing {
     Storing(Reader),
     Overflowed(Reader),
@@ -12,7 +12,7 @@ pub enum Standing {
 }
 
 // The same, and how many statements, values and bytes of strings are stored behind what the pool holds.
-#[derive(Drop)]
+#[derive(Clone, Copy)]
 pub struct Entered {
     pub standing: Standing,
     pub statements: usize,
@@ -22,7 +22,7 @@ pub struct Entered {
 
 // How many lines are complete, and how long the last of them is, as far as it is kept; what is kept of the line that goes on, and whether a CR
 // came after it, of which the next byte tells whether it is the line's; how many bytes came in all.
-#[derive(Drop)]
+#[derive(Clone, Copy)]
 pub struct Bookmark {
     pub entered: Entered,
     pub number: usize,

@@ -25,7 +25,7 @@ use value::faults::{Fault, refusal_of};
 use words::write::store;
 
 // What the text's lines came to at its end: how many they are, and how long the last one is.
-#[derive(Drop)]
+#[derive(Clone, Copy)]
 pub struct Ended {
     pub entered: Entered,
     pub number: usize,

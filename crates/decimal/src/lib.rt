@@ -15,7 +15,7 @@ use sign::read_sign;
 use whole::read_whole;
 
 // What a run of bytes is: a number of the class; no value; a value outside the class. What is no number tells its refusal.
-#[derive(Drop)]
+#[derive(Clone, Copy)]
 pub enum Reading {
     Number(f64),
     BadForm(Refusal),

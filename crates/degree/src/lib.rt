@@ -11,7 +11,7 @@ use wanted::elements;
 use wanted::name::Wanted;
 
 // The degree of a system's angles, or that what is announced is none.
-#[derive(Drop)]
+#[derive(Clone, Copy)]
 pub enum Degree {
     Of(usize),
     Bad,

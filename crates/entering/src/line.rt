@@ -12,7 +12,7 @@ use statement::values::Reader;
 use text::line::{Answer, line_step};
 
 // What a line makes of an open text: nothing is written for it, or what it adds is to be, of so many values, to a list that stands so.
-#[derive(Drop)]
+#[derive(Clone, Copy)]
 pub enum Seen {
     Unwritten(Entered),
     Written(Entered, Reader, usize),

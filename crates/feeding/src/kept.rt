@@ -10,7 +10,7 @@ use value::classes::Class;
 // The most bytes that are kept of a line.
 pub const ROOM: usize = 133;
 
-#[derive(Drop)]
+#[derive(Clone, Copy)]
 pub struct Kept {
     pub bytes: [u8; 133],
     pub used: usize,

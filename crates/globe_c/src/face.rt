@@ -9,7 +9,7 @@ use rotation::matrix::{Orientation, Oriented};
 use rotation::table::Radii;
 
 #[repr(C)]
-#[derive(Drop)]
+#[derive(Clone, Copy)]
 pub struct GlobeReply {
     pub number: u32,
     pub line: u32,
@@ -17,7 +17,7 @@ pub struct GlobeReply {
 }
 
 #[repr(C)]
-#[derive(Drop)]
+#[derive(Clone, Copy)]
 pub struct GlobeFetched {
     pub number: u32,
     pub line: u32,
@@ -26,7 +26,7 @@ pub struct GlobeFetched {
 }
 
 #[repr(C)]
-#[derive(Drop)]
+#[derive(Clone, Copy)]
 pub struct GlobeCounts {
     pub number: u32,
     pub line: u32,
@@ -37,7 +37,7 @@ pub struct GlobeCounts {
 }
 
 #[repr(C)]
-#[derive(Drop)]
+#[derive(Clone, Copy)]
 pub struct GlobeOriented {
     pub number: u32,
     pub line: u32,
@@ -57,7 +57,7 @@ pub struct GlobeOriented {
 }
 
 #[repr(C)]
-#[derive(Drop)]
+#[derive(Clone, Copy)]
 pub struct GlobeAxes {
     pub number: u32,
     pub line: u32,

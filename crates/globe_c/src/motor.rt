@@ -6,7 +6,7 @@ use drive::answer::{Moved, Placed};
 use refusal::number;
 
 #[repr(C)]
-#[derive(Drop)]
+#[derive(Clone, Copy)]
 pub struct GlobePosition {
     pub number: u32,
     pub line: u32,
@@ -16,7 +16,7 @@ pub struct GlobePosition {
 
 // The header's `move` is a word of this language.
 #[repr(C)]
-#[derive(Drop)]
+#[derive(Clone, Copy)]
 pub struct GlobeMotion {
     pub number: u32,
     pub line: u32,

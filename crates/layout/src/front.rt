@@ -12,7 +12,7 @@ use crate::limits::{
 use words::write::store;
 
 // The numbers of texts, statements, values and bytes of strings.
-#[derive(Drop)]
+#[derive(Clone, Copy)]
 pub struct Totals {
     pub texts: u64,
     pub statements: u64,

@@ -2,7 +2,7 @@
 ghost use Rattle.listing.specs.Input.{Within};
 
 // So many bytes from the room's start on; or a read failed, so that what came is no whole text.
-#[derive(Drop)]
+#[derive(Clone, Copy)]
 pub enum Input {
     Bytes(usize),
     Unreadable,

@@ -14,7 +14,7 @@ pub const COEFFICIENTS: usize = 32;
 pub const ANGLES: usize = 128;
 
 // The degree of the angles, and how many values they and the three variables have.
-#[derive(Drop)]
+#[derive(Clone, Copy)]
 pub struct Lengths {
     pub degree: usize,
     pub angles: usize,
@@ -23,7 +23,7 @@ pub struct Lengths {
     pub pm: usize,
 }
 
-#[derive(Drop)]
+#[derive(Clone, Copy)]
 pub enum Terms {
     Counted(Lengths),
     Miscounted,

@@ -10,7 +10,7 @@ use names::pack::NAMEWORDS;
 use words::compare::same;
 
 // Where a name belongs among names in order, if it is not held yet.
-#[derive(Drop)]
+#[derive(Clone, Copy)]
 pub enum Spot {
     At(usize),
     Held,

@@ -14,7 +14,7 @@ use statement::values::Kind;
 use words::write::store;
 
 // The next free place of each area, the next free byte of the strings, and the head of the statement opened last.
-#[derive(Drop)]
+#[derive(Clone, Copy)]
 pub struct Pen {
     pub heads: usize,
     pub names: usize,

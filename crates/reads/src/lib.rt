@@ -11,7 +11,7 @@ use rotation::code::System;
 use wanted::name::{Wanted, spell};
 
 // What is asked of a pool about a body.
-#[derive(Drop)]
+#[derive(Clone, Copy)]
 pub enum Asked {
     Orientation,
     Radii,

@@ -19,7 +19,7 @@ use words::scan::sum_lower;
 use words::write::shift;
 
 // How many elements of an area stand before a gap, in it and after it.
-#[derive(Drop)]
+#[derive(Clone, Copy)]
 pub struct Gap {
     pub before: usize,
     pub inside: usize,

@@ -3,7 +3,7 @@ ghost use Rattle.std.specs.Prelude.{◌≡◌};
 ghost use Rattle.rotation.specs.Codes.{system_of};
 
 // The angle system of a body's code.
-#[derive(Drop)]
+#[derive(Clone, Copy)]
 pub enum System {
     Of(u32),
     Nowhere,

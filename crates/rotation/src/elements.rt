@@ -5,7 +5,7 @@ ghost use Rattle.rotation.specs.Elements.{by_century, by_day};
 use super::epoch::{Centuries, Days};
 
 // c0 + x * (c1 + x * c2).
-#[derive(Drop)]
+#[derive(Clone, Copy)]
 pub struct Polynomial {
     pub c0: f64,
     pub c1: f64,
@@ -13,7 +13,7 @@ pub struct Polynomial {
 }
 
 // Right ascension and declination of the pole, and the prime meridian.
-#[derive(Drop)]
+#[derive(Clone, Copy)]
 pub struct Elements {
     pub ra: Polynomial,
     pub dec: Polynomial,

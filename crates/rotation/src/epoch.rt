@@ -3,10 +3,10 @@ ghost use Rattle.std.specs.Prelude.{◌≡◌};
 ghost use Rattle.rotation.specs.Epochs.{days, centuries, in_reach};
 
 // A rate per day meets Days, and a rate per century Centuries: neither can take the other.
-#[derive(Drop)]
+#[derive(Clone, Copy)]
 pub struct Days(pub f64);
 
-#[derive(Drop)]
+#[derive(Clone, Copy)]
 pub struct Centuries(pub f64);
 
 const FARTHEST: f64 = 157788000000.0;

@@ -6,7 +6,7 @@ use angle::{sine, wrap};
 use refusal::Refusal;
 
 // Pole and meridian in degrees, and the matrix by rows.
-#[derive(Drop)]
+#[derive(Clone, Copy)]
 pub struct Orientation {
     pub ra: f64,
     pub dec: f64,
@@ -23,7 +23,7 @@ pub struct Orientation {
 }
 
 // What a call for an orientation answers.
-#[derive(Drop)]
+#[derive(Clone, Copy)]
 pub enum Oriented {
     Given(Orientation),
     Refused(Refusal),

@@ -13,7 +13,7 @@ pub const LINEAR: usize = 1;
 pub const CUBIC: usize = 3;
 
 // Right ascension, declination and meridian, while terms are added.
-#[derive(Drop)]
+#[derive(Clone, Copy)]
 pub struct Sums {
     pub ra: f64,
     pub dec: f64,

@@ -6,14 +6,14 @@ use super::elements::{Elements, Polynomial};
 use refusal::Refusal;
 
 // The elements of a body, if the table has a row for it.
-#[derive(Drop)]
+#[derive(Clone, Copy)]
 pub enum Row {
     Held(Elements),
     NoRow,
 }
 
 // Three radii in km.
-#[derive(Drop)]
+#[derive(Clone, Copy)]
 pub struct Axes {
     pub a: f64,
     pub b: f64,
@@ -21,14 +21,14 @@ pub struct Axes {
 }
 
 // The radii of a body, if the table has them.
-#[derive(Drop)]
+#[derive(Clone, Copy)]
 pub enum Size {
     Known(Axes),
     NoSize,
 }
 
 // What a call for radii answers.
-#[derive(Drop)]
+#[derive(Clone, Copy)]
 pub enum Radii {
     Given(Axes),
     Refused(Refusal),

@@ -9,7 +9,7 @@ const HALF: u64 = 4294967296;
 const STEP: u64 = 67108864;
 
 // A quotient's whole part so far, and the rest.
-#[derive(Drop)]
+#[derive(Clone, Copy)]
 pub(crate) struct Part {
     pub(crate) whole: u64,
     pub(crate) rest: u64,

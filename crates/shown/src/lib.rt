@@ -19,7 +19,7 @@ use values::show_values;
 use variables::walk::walk;
 
 // Where the next byte of the output goes, and how many values were counted.
-#[derive(Drop)]
+#[derive(Clone, Copy)]
 pub struct Ends {
     pub at: usize,
     pub total: usize,

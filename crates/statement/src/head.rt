@@ -11,14 +11,14 @@ use value::faults::Fault;
 // The longest name.
 pub const NAME: usize = 32;
 
-#[derive(Drop)]
+#[derive(Clone, Copy)]
 pub enum Operator {
     Direct,
     Append,
 }
 
 // What a data line opens with: blanks only; a name by its start and end, its operator and where its values start; or a fault.
-#[derive(Drop)]
+#[derive(Clone, Copy)]
 pub enum Head {
     Blank,
     Named(usize, usize, Operator, usize),

@@ -9,7 +9,7 @@ use value::faults::Fault;
 use value::{Word, classes, read_value};
 
 // What a list has so far: no value, numbers, or strings.
-#[derive(Drop)]
+#[derive(Clone, Copy)]
 pub enum Kind {
     Empty,
     Numbers,
@@ -17,7 +17,7 @@ pub enum Kind {
 }
 
 // How the reader stands between two lines: in a text section, in a data section, or there in a list that has such values so far.
-#[derive(Drop)]
+#[derive(Clone, Copy)]
 pub enum Reader {
     Text,
     Data,
@@ -25,7 +25,7 @@ pub enum Reader {
 }
 
 // What a list has next: the line's end, its `)`, a value as in a word; or a fault.
-#[derive(Drop)]
+#[derive(Clone, Copy)]
 pub enum Item {
     End,
     Close(usize),
@@ -35,7 +35,7 @@ pub enum Item {
 }
 
 // What ends a list's values in a line.
-#[derive(Drop)]
+#[derive(Clone, Copy)]
 pub enum Stop {
     End,
     Close(usize),
@@ -43,7 +43,7 @@ pub enum Stop {
 }
 
 // What a list has after its values in a line, how many these are, how many bytes their strings have, and what ends them.
-#[derive(Drop)]
+#[derive(Clone, Copy)]
 pub struct Counted {
     pub kind: Kind,
     pub given: usize,
@@ -52,7 +52,7 @@ pub struct Counted {
 }
 
 // The reader after a statement's values, how many they are and how many bytes their strings have; or a fault.
-#[derive(Drop)]
+#[derive(Clone, Copy)]
 pub enum Taken {
     Values(Reader, usize, usize),
     Fault(Fault, usize),

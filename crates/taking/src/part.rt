@@ -12,7 +12,7 @@ use value::classes;
 use value::classes::Class;
 
 // After the whole lines of a part: how many lines are complete, how long the last of them is, and where in the part the next one begins.
-#[derive(Drop)]
+#[derive(Clone, Copy)]
 pub struct Reached {
     pub entered: Entered,
     pub number: usize,

@@ -6,7 +6,7 @@ use value::classes;
 use value::classes::Class;
 
 // What a line is: one that opens a section, or any other.
-#[derive(Drop)]
+#[derive(Clone, Copy)]
 pub enum Mark {
     Data,
     Text,

@@ -12,7 +12,7 @@ use statement::values::Reader;
 use value::faults::Fault;
 
 // How many statements and values a text has and how many bytes in strings, or its first fault, the fault's line and its place there.
-#[derive(Drop)]
+#[derive(Clone, Copy)]
 pub enum Checked {
     Admitted(usize, usize, usize),
     Refused(Fault, usize, usize),

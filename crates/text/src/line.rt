@@ -16,7 +16,7 @@ use value::faults::Fault;
 
 // The reader after a line, how many statements the line opens, how many values it gives and how many bytes their strings have; or its
 // first fault.
-#[derive(Drop)]
+#[derive(Clone, Copy)]
 pub enum Answer {
     Next(Reader, usize, usize, usize),
     Fault(Fault, usize),

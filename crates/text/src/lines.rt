@@ -6,7 +6,7 @@ use value::classes;
 use value::classes::Class;
 
 // Where a line's bytes end, and where the next line starts.
-#[derive(Drop)]
+#[derive(Clone, Copy)]
 pub struct Cut {
     pub end: usize,
     pub next: usize,

@@ -5,7 +5,7 @@ ghost use Rattle.value.specs.Classes.{is, stands};
 ghost use Rattle.value.specs.Masks.{bit, Tells};
 
 // A kind of bytes.
-#[derive(Drop)]
+#[derive(Clone, Copy)]
 pub enum Class {
     Blank,
     Fair,
@@ -60,7 +60,7 @@ pub fn stands(c: u8, line: &[u8], at: usize) -> bool
 }
 
 // A class as bits: those of two words for the bytes below 64 and below 128, and one answer for all bytes above.
-#[derive(Drop)]
+#[derive(Clone, Copy)]
 pub struct Mask {
     pub low: u64,
     pub high: u64,

@@ -5,7 +5,7 @@ ghost use Rattle.value.specs.Faults.{refusal_of};
 use refusal::Refusal;
 
 // What is wrong, which goes with its place in the line, counted in bytes from 0.
-#[derive(Drop)]
+#[derive(Clone, Copy)]
 pub enum Fault {
     TooLong,
     BadByte,

@@ -12,7 +12,7 @@ use crate::faults::Fault;
 use decimal::Reading;
 
 // A value: the number and the place after it; where the string starts, its length and the place after it; or a fault where it starts.
-#[derive(Drop)]
+#[derive(Clone, Copy)]
 pub enum Word {
     Number(f64, usize),
     String(usize, usize, usize),

@@ -10,7 +10,7 @@ use crate::{Word, classes};
 pub const STRING: usize = 60;
 
 // How long a string is, two quotes being one, and the place after its closing quote; or no quote closes it.
-#[derive(Drop)]
+#[derive(Clone, Copy)]
 pub enum Closing {
     Closed(usize, usize),
     Unclosed,

@@ -12,7 +12,7 @@ use layout::limits::HALF;
 use names::pack::pack;
 
 // A statement, the place of its first value, and one of its values, counted from 0.
-#[derive(Drop)]
+#[derive(Clone, Copy)]
 pub struct Spot {
     pub statement: usize,
     pub value: usize,

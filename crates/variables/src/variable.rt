@@ -8,7 +8,7 @@ use crate::name::is_legal;
 use crate::walk::walk;
 
 // Whether a variable is there, of the kind that is asked for, and has room: how many values or bytes it has.
-#[derive(Drop)]
+#[derive(Clone, Copy)]
 pub enum Found {
     Count(usize),
     TooMany,

@@ -17,7 +17,7 @@ const DIRECT: u64 = 0;
 const STRINGS: u64 = 1;
 
 // A variable's first statement, the first of that statement's values, how many values the variable has, and how many of them are strings.
-#[derive(Drop)]
+#[derive(Clone, Copy)]
 pub struct Start {
     pub statement: usize,
     pub value: usize,

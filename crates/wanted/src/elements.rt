@@ -11,7 +11,7 @@ use statement::head::NAME;
 use variables::variable::{Found, variable};
 
 // A variable of pole or meridian: "1 to 3 values each".
-#[derive(Drop)]
+#[derive(Clone, Copy)]
 pub enum Values {
     Few(Polynomial),
     Miscounted,
@@ -20,7 +20,7 @@ pub enum Values {
 }
 
 // Pole and meridian, where none of the three is absent.
-#[derive(Drop)]
+#[derive(Clone, Copy)]
 pub enum Base {
     Whole(Elements),
     Miscounted,

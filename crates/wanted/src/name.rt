@@ -7,7 +7,7 @@ ghost use Rattle.words.specs.Placed.{Writes};
 use words::bytes::append;
 
 // The variables that a body's answers are made of.
-#[derive(Drop)]
+#[derive(Clone, Copy)]
 pub enum Wanted {
     PoleRa,
     PoleDec,

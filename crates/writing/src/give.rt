@@ -12,14 +12,14 @@ use statement::values::{Counted, Item, Kind, Reader, Stop, next_item};
 use value::{Word, classes, read_value};
 
 // The pen and the reader after a line.
-#[derive(Drop)]
+#[derive(Clone, Copy)]
 pub struct Turn {
     pub pen: Pen,
     pub reader: Reader,
 }
 
 // The pen after a list's values in a line are stored, and these counted.
-#[derive(Drop)]
+#[derive(Clone, Copy)]
 pub struct Stored {
     pub pen: Pen,
     pub counted: Counted,

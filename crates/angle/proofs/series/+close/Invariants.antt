@@ -1,0 +1,5 @@
+-- The number of divisors that remain falls.
+use Rattle.angle.proofs.series.+close.Given as goal
+
+abbrev pub decreases-close : goal.decreases-close
+decreases-close l = l.remaining

@@ -1,0 +1,31 @@
+-- `all_fair` meets its contract: the bytes left are fair exactly when all are, since each word passed is. Assumes nothing.
+use mathlib.Core.Path.{◌≡◌, sym, ◌∙◌}
+use Prim.Native.Nat.{◌-◌, ◌*◌, ◌/◌, ◌≤◌}
+use native.Mathlib.Omega.{arith}
+use borrow.Author.Rules.{rules}
+use borrow.Author.Tests.{not-true, not-false}
+use lib.ListN.{take}
+use Rattle.plain.specs.Bytes.{fair}
+use Rattle.words.specs.Over.{part}
+use Rattle.words.specs.Halves.{all}
+use Rattle.octets.specs.Octets.{octets}
+use Rattle.octets.proofs.Tested.{tested-start, words-next, words-stop}
+use Rattle.octets.proofs.fair.all_fair.Goals as goal
+
+pub loop-k-init : goal.loop-k-init
+loop-k-init c = (search rules, tested-start fair (octets c.args.ws.now) 0 c.args.n)
+
+pub returns-then-not-word_fair : goal.returns-then-not-word_fair
+returns-then-not-word_fair c =
+    let a = c.args in
+    words-stop fair (octets a.ws.now) a.n c.loop-k.k c.loop-k-test.true (sym c.word_fair.ensures ∙ c.if-not-word_fair.true) ∙ c.loop-k.invariant.1
+
+pub loop-k-preserved : goal.loop-k-preserved
+loop-k-preserved c =
+    let a = c.args in (
+      omega arith,
+      words-next fair (octets a.ws.now) a.n c.loop-k.k c.loop-k-test.true (sym c.word_fair.ensures ∙ c.if-not-word_fair.false) ∙ c.loop-k.invariant.1,
+    )
+
+pub returns : goal.returns
+returns c = c.bytes_fair.ensures ∙ c.loop-k.invariant.1

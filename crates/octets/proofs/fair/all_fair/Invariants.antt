@@ -1,0 +1,19 @@
+-- `all_fair` meets its contract: the bytes left are fair exactly when all are, since each word passed is. Assumes nothing.
+use mathlib.Core.Path.{◌≡◌, sym, ◌∙◌}
+use Prim.Native.Nat.{◌-◌, ◌*◌, ◌/◌, ◌≤◌}
+use native.Mathlib.Omega.{arith}
+use borrow.Author.Rules.{rules}
+use borrow.Author.Tests.{not-true, not-false}
+use lib.ListN.{take}
+use Rattle.plain.specs.Bytes.{fair}
+use Rattle.words.specs.Over.{part}
+use Rattle.words.specs.Halves.{all}
+use Rattle.octets.specs.Octets.{octets}
+use Rattle.octets.proofs.Tested.{tested-start, words-next, words-stop}
+use Rattle.octets.proofs.fair.all_fair.Given as goal
+
+abbrev pub invariant-loop-k : goal.invariant-loop-k
+invariant-loop-k l = (l.k ≤ l.n / 8) × (all fair (part (8 * l.k) (l.n - 8 * l.k) (octets l.ws)) ≡ all fair (take l.n (octets l.ws)))
+
+abbrev pub decreases-loop-k : goal.decreases-loop-k
+decreases-loop-k l = l.whole - l.k

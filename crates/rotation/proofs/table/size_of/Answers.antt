@@ -1,0 +1,52 @@
+-- `size_of` meets its contract: each arm is the row that `size_of` picks by the arm's code. Assumes nothing.
+use lib.Ieee.{of_bits, round}
+use borrow.Author.Rules.{rules}
+use borrow.Author.Tests.{ne_eqb}
+use Rattle.plain.specs.Doubles.{printed}
+use Rattle.rotation.specs.Table.{size_of}
+use Rattle.rotation.proofs.Arms.{arm}
+use Rattle.rotation.proofs.table.size_of.Goals as goal
+
+-- no arm
+pub returns-in_default : goal.returns-in_default
+unfolding size_of
+returns-in_default c =
+    let n = c.args.code in
+    simp (
+      ne_eqb n 199 (search rules),
+      ne_eqb n 299 (search rules),
+      ne_eqb n 399 (search rules),
+      ne_eqb n 499 (search rules),
+      ne_eqb n 599 (search rules),
+      ne_eqb n 699 (search rules),
+      ne_eqb n 799 (search rules),
+      ne_eqb n 899 (search rules),
+      ne_eqb n 999 (search rules),
+    )
+
+pub returns-in-199 : goal.returns-in-199
+returns-in-199 c = arm size_of c.sized.ensures c.in-199.is
+
+pub returns-in-299 : goal.returns-in-299
+returns-in-299 c = arm size_of c.sized-in-299.ensures c.in-299.is
+
+pub returns-in-399 : goal.returns-in-399
+returns-in-399 c = arm size_of c.sized-in-399.ensures c.in-399.is
+
+pub returns-in-499 : goal.returns-in-499
+returns-in-499 c = arm size_of c.sized-in-499.ensures c.in-499.is
+
+pub returns-in-599 : goal.returns-in-599
+returns-in-599 c = arm size_of c.sized-in-599.ensures c.in-599.is
+
+pub returns-in-699 : goal.returns-in-699
+returns-in-699 c = arm size_of c.sized-in-699.ensures c.in-699.is
+
+pub returns-in-799 : goal.returns-in-799
+returns-in-799 c = arm size_of c.sized-in-799.ensures c.in-799.is
+
+pub returns-in-899 : goal.returns-in-899
+returns-in-899 c = arm size_of c.sized-in-899.ensures c.in-899.is
+
+pub returns-in-999 : goal.returns-in-999
+returns-in-999 c = arm size_of c.sized-in-999.ensures c.in-999.is

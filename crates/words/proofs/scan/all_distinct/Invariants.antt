@@ -1,0 +1,17 @@
+-- `all_distinct` meets its contract: what is left is distinct exactly when all is, since each word passed stands only once.
+-- Assumes nothing.
+use Prim.Native.Nat.{ℕ, ◌+◌, ◌≤◌, ◌<◌, ◌-◌}
+use mathlib.Core.Path.{◌≡◌, refl, ap, ◌∙◌}
+use mathlib.Core.List.{List}
+use native.Mathlib.Omega.{arith}
+use borrow.Author.Rules.{rules}
+use lib.ListN.{length, drop, take}
+use Rattle.words.specs.Halves.{distinct, place}
+use Rattle.words.proofs.Steps.{distinct-next, distinct-stop, distinct-end, rest_part}
+use Rattle.words.proofs.scan.all_distinct.Given as goal
+
+abbrev pub invariant-loop-i : goal.invariant-loop-i
+invariant-loop-i l = (l.i ≤ length l.ws) × (distinct (drop l.i l.ws) ≡ distinct l.ws)
+
+abbrev pub decreases-loop-i : goal.decreases-loop-i
+decreases-loop-i l = length l.ws - l.i
