@@ -20,7 +20,7 @@ use Rattle.decimal.specs.declared.Reading.TheVariants.{Number, OutsideClass}
 use Rattle.decimal.proofs.Bounded.{bottom-pos, scaled-below}
 
 scaled-finite : (w : ℕ) (k : ℤ) → in_class w k ≡ true → T (finite (scaled_by w k))
-scaled-finite w k c = rw (finite-under (scaled_by w k) (record { is = scaled-below w k c })) tt
+scaled-finite w k c = rw (finite-under {k = 200} (scaled_by w k) (record { is = scaled-below w k c })) tt
 
 -- what is read, by whether the number is in the class
 read-inside : (bs : List ℕ) (m : Bool) (w : ℕ) (k : ℤ) → written bs ≡ number m w k → in_class w k ≡ true → reading bs ≡ Number (signed m (scaled_by w k))

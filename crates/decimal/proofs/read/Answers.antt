@@ -31,14 +31,11 @@ parts bs s n e S N E =
     ∙ N.worth s.minus
     ∙ signed bs s S
 
-all_read : (c : goal.After-read_exponent-exponent) → let e = c.read_exponent-exponent.result in let n = c.read_whole-whole.result in let s = c.read_sign-sign.result in valued (if n.some then (if e.right then number s.minus n.w (pos e.up -ℤ pos e.down) else broken) else broken) ≡ reading c.args.value.now
-all_read c = parts _ _ _ _ c.read_sign-sign.ensures c.read_whole-whole.ensures c.read_exponent-exponent.ensures
-
 pub returns-then-exponent : goal.returns-then-exponent
-returns-then-exponent c = c.scale.ensures ∙ (rw (c.if-whole.true, c.if-exponent.true) at (all_read c.before.before.before))
+returns-then-exponent c = c.scale.ensures ∙ (rw (c.if-whole.true, c.if-exponent.true) at (parts _ _ _ _ c.read_sign-sign.ensures c.read_whole-whole.ensures c.read_exponent-exponent.ensures))
 
 pub returns-else-exponent : goal.returns-else-exponent
-returns-else-exponent c = rw (c.if-whole.true, c.if-exponent.false) at (all_read c.before.before)
+returns-else-exponent c = rw (c.if-whole.true, c.if-exponent.false) at (parts _ _ _ _ c.read_sign-sign.ensures c.read_whole-whole.ensures c.read_exponent-exponent.ensures)
 
 pub returns-else-whole : goal.returns-else-whole
-returns-else-whole c = rw c.if-whole.false at (all_read c.before)
+returns-else-whole c = rw c.if-whole.false at (parts _ _ _ _ c.read_sign-sign.ensures c.read_whole-whole.ensures c.read_exponent-exponent.ensures)

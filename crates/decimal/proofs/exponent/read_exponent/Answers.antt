@@ -25,5 +25,5 @@ returns c =
           λ m w.
           rw c.is_letter-marked.ensures
           (scaled-up c.args.value.now c.args.at c.if-at-value.false c.read_sign-sign.ensures c.read_digits-power.ensures m w c.args.places c.if-sign.false
-          (omega (arith, c.requires, c.well-formed)));
+          (omega (arith, c.requires, c.well_formed)));
     }

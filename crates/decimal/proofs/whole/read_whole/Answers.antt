@@ -6,6 +6,7 @@ use borrow.Author.Rules.{rules}
 use Rattle.decimal.proofs.Places.{digits-count, digits-within}
 use Rattle.decimal.proofs.Pointed.{NoPoint, pointed-none, pointed-some}
 use Rattle.decimal.proofs.whole.read_whole.Goals as goal
+use Rattle.decimal.proofs.whole.read_whole.Goals.{then-point-value+else-value-point-eq46, else-point-value}
 
 pub overflow_add-result : goal.overflow_add-result
 overflow_add-result c = omega (arith, digits-count c.read_digits-before.ensures)
@@ -21,8 +22,11 @@ returns-then-value-point-eq46 c =
       within = digits-within after;
     }
 
-no-point : (c : goal.Joined-point-value) → NoPoint c.args.value.now c.read_digits-before.result.end
-no-point c = ⊎_elim (λ w. inr (w.0.taken, w.2.left)) (λ w. inl w.left) c.if-point-value.branch
-
 pub returns : goal.returns
-returns c = record { worth = λ m. pointed-none c.read_digits-before.ensures m (no-point c); within = omega arith }
+returns c =
+    record {
+      worth = λ m.
+          pointed-none c.read_digits-before.ensures m
+          (elim c.if-point-value.branch [ then-point-value+else-value-point-eq46 w ↦ inr (w.if-point-value.true, w.if-value-point-eq46.false) | else-point-value w ↦ inl w.if-point-value.false ]);
+      within = omega arith;
+    }
