@@ -1,0 +1,16 @@
+-- `past` meets its contract: the run from i on ends where the run from `at` on does, and the mask tells the class. Assumes nothing.
+use Prim.Native.Nat.{◌-◌}
+use native.Mathlib.Omega.{arith}
+use mathlib.Core.Path.{◌≡◌, refl, sym, ◌∙◌}
+use borrow.Author.Rules.{rules}
+use lib.ListN.{length}
+use Rattle.plain.specs.Runs.{past}
+use Rattle.plain.proofs.Places.{past-step, past_stop, past_end, past_same}
+use Rattle.value.specs.Masks.{bit}
+use Rattle.value.proofs.classes.past.Given as goal
+
+abbrev pub invariant-loop-i : goal.invariant-loop-i
+invariant-loop-i l = past (bit l.mask) l.line l.i ≡ past (bit l.mask) l.line l.at
+
+abbrev pub decreases-loop-i : goal.decreases-loop-i
+decreases-loop-i l = length l.line - l.i
