@@ -16,7 +16,7 @@ use Rattle.angle.specs.declared.sine.SineCosine.{SineCosine}
 use Rattle.angle.proofs.Sizes.{sine-cosine-under, sine-finite}
 use Rattle.rotation.specs.Epochs.{days, centuries, in_reach}
 use Rattle.rotation.specs.Elements.{sine, cosine, CUBIC, groups, nested, angle, nutated, nutated_all}
-use Rattle.rotation.specs.Evaluation.{starts, evaluated}
+use Rattle.rotation.specs.Evaluation.{evaluated}
 use Rattle.rotation.specs.Finite.{SmallPolynomial, SmallValues, SmallInput}
 use Rattle.rotation.specs.Overflow.{FiniteStep, FinitePolynomial, FiniteNest, FiniteAngle, FiniteTerms, FiniteSums, NeverOverflows}
 use Rattle.rotation.specs.declared.epoch.Days.{Days}

@@ -1,6 +1,5 @@
 -- `evaluate_row` meets its contract: Neptune's arrays are the printed lists, and the others' are empty. Assumes nothing.
 use lib.Ieee.{of_bits, round, neg}
-use borrow.Author.Rules.{rules}
 use borrow.Author.Tests.{ne_eqb}
 use Rattle.plain.specs.Doubles.{printed}
 use Rattle.rotation.specs.Builtin.{row_evaluated}

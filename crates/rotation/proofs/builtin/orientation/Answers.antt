@@ -1,9 +1,8 @@
 -- `orientation` meets its contract: each way out is what the test, the system and the row decide. Assumes nothing.
 use mathlib.Core.Path.{◌≡◌, sym, ap, ◌∙◌}
-use mathlib.Core.Bool.{Bool, false, not}
+use mathlib.Core.Bool.{Bool, true}
 use Prim.Native.Nat.{ℕ}
 use lib.Ieee.{Float}
-use borrow.Author.Rules.{rules}
 use Rattle.rotation.specs.Epochs.{in_reach}
 use Rattle.rotation.specs.Codes.{system_of}
 use Rattle.rotation.specs.Table.{row_of}
@@ -16,12 +15,12 @@ use Rattle.rotation.proofs.Asked.{denied, granted}
 use Rattle.rotation.proofs.builtin.orientation.Goals as goal
 
 -- the answer, by what the system and the row came to
-by-system : (n : ℕ) (epoch : Float) (b : Bool) (s : System) → b ≡ in_reach epoch → not b ≡ false → s ≡ system_of n
+by-system : (n : ℕ) (epoch : Float) (b : Bool) (s : System) → b ≡ in_reach epoch → b ≡ true → s ≡ system_of n
     → by_system n epoch s ≡ builtin_orientation n epoch
 unfolding builtin_orientation
 by-system n epoch b s h e k = rw (granted h e, k)
 
-by-row : (n : ℕ) (epoch : Float) (b : Bool) (s : ℕ) (r : Row) → b ≡ in_reach epoch → not b ≡ false → Of s ≡ system_of n → r ≡ row_of n
+by-row : (n : ℕ) (epoch : Float) (b : Bool) (s : ℕ) (r : Row) → b ≡ in_reach epoch → b ≡ true → Of s ≡ system_of n → r ≡ row_of n
     → by_row n epoch r ≡ builtin_orientation n epoch
 by-row n epoch b s r h e k l = ap (by_row n epoch) l ∙ by-system n epoch b (Of s) h e k
 

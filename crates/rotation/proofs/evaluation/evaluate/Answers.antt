@@ -3,7 +3,6 @@ use Prim.Native.Nat.{ℕ}
 use mathlib.Core.Path.{◌≡◌}
 use mathlib.Core.List.{List}
 use lib.Ieee.{Float}
-use borrow.Author.Rules.{rules}
 use Rattle.rotation.specs.Epochs.{days, centuries}
 use Rattle.rotation.specs.Elements.{by_century, by_day, nutated_all}
 use Rattle.rotation.specs.Matrix.{oriented}

@@ -1,5 +1,4 @@
 -- `orient` meets its contract: what each call ensures is put in. Assumes nothing.
-use borrow.Author.Rules.{rules}
 use Rattle.rotation.specs.Matrix.{oriented}
 use Rattle.rotation.proofs.matrix.orient.Goals as goal
 

@@ -1,7 +1,6 @@
 -- `add_term` meets its contract: its test says which of the two cases it is in. Assumes nothing.
 use mathlib.Core.Path.{refl}
 use native.Mathlib.Omega.{arith}
-use borrow.Author.Rules.{rules}
 use Rattle.rotation.proofs.nutation.add_term.Goals as goal
 
 pub returns-then-i-coefficients : goal.returns-then-i-coefficients

@@ -1,5 +1,4 @@
 -- `add_terms` meets its contract: what each call ensures is put in. Assumes nothing.
-use borrow.Author.Rules.{rules}
 use Rattle.rotation.proofs.nutation.add_terms.Goals as goal
 
 pub returns : goal.returns

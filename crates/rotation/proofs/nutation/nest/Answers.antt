@@ -1,10 +1,6 @@
 -- `nest` meets its contract: the loop keeps the nested sum from place i of the group on. Assumes nothing.
-use mathlib.Core.Path.{◌≡◌, refl}
-use Prim.Native.Nat.{◌+◌, ◌-◌, ◌≤◌, ◌<◌}
+use mathlib.Core.Path.{refl}
 use native.Mathlib.Omega.{arith}
-use lib.ListN.{length}
-use borrow.Author.Rules.{rules}
-use Rattle.rotation.specs.Elements.{nested}
 use Rattle.rotation.proofs.Nested.{nested-last, nested-before, nested-whole}
 use Rattle.rotation.proofs.nutation.nest.Goals as goal
 

@@ -1,13 +1,11 @@
 -- `nutate` meets its contract: the loop keeps the sums at term i, and every term has its angle. Assumes nothing.
 use mathlib.Core.Path.{ap, ◌∙◌}
-use Prim.Native.Nat.{◌+◌, ◌*◌, ◌≤◌, ◌<◌, ◌-◌}
+use Prim.Native.Nat.{◌+◌, ◌*◌, ◌<◌}
 use native.Mathlib.Omega.{arith}
 use lib.ListN.{length}
-use borrow.Author.Rules.{rules}
 use Rattle.angle.specs.Sine.{sine_cosine}
-use Rattle.rotation.specs.Elements.{CUBIC, groups}
 use Rattle.rotation.proofs.Nested.{group-within}
-use Rattle.rotation.proofs.Terms.{ReachedAll, no-terms, more-terms, all-terms}
+use Rattle.rotation.proofs.Terms.{no-terms, more-terms, all-terms}
 use Rattle.rotation.proofs.nutation.nutate.Goals as goal
 
 pub loop-i-init : goal.loop-i-init

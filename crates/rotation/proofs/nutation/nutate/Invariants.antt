@@ -1,13 +1,8 @@
 -- `nutate` meets its contract: the loop keeps the sums at term i, and every term has its angle. Assumes nothing.
-use mathlib.Core.Path.{ap, ◌∙◌}
-use Prim.Native.Nat.{◌+◌, ◌*◌, ◌≤◌, ◌<◌, ◌-◌}
-use native.Mathlib.Omega.{arith}
+use Prim.Native.Nat.{◌≤◌, ◌-◌}
 use lib.ListN.{length}
-use borrow.Author.Rules.{rules}
-use Rattle.angle.specs.Sine.{sine_cosine}
 use Rattle.rotation.specs.Elements.{CUBIC, groups}
-use Rattle.rotation.proofs.Nested.{group-within}
-use Rattle.rotation.proofs.Terms.{ReachedAll, no-terms, more-terms, all-terms}
+use Rattle.rotation.proofs.Terms.{ReachedAll}
 use Rattle.rotation.proofs.nutation.nutate.Given as goal
 
 abbrev pub invariant-loop-i : goal.invariant-loop-i

@@ -1,5 +1,4 @@
 -- `held` meets its contract: the three polynomials are put in. Assumes nothing.
-use borrow.Author.Rules.{rules}
 use Rattle.rotation.proofs.table.held.Goals as goal
 
 pub returns : goal.returns
