@@ -9,21 +9,14 @@ use lib.Dec.{eqb}
 use Rattle.plain.specs.Choice.{if◌then◌else◌}
 use Rattle.words.specs.Halves.{sum}
 use Rattle.layout.specs.Memory.{bytes_taken}
-use Rattle.layout.proofs.taken.bytes_taken.Statement.{statement}
-use Rattle.layout.proofs.taken.bytes_taken.Tie as tie
+use Rattle.layout.proofs.taken.bytes_taken.Goals as goal
 
 -- what the kind's test tells
 told : (kind : ℕ) (ws : List ℕ) (t : Bool) → eqb kind 0 ≡ t → (if t then 0 else sum ws) ≡ bytes_taken kind ws
 told kind ws t e = ap (λ (b : Bool). if b then 0 else sum ws) (sym e)
 
-returns : tie.Need-returns
-returns c = let a = c.before.before.args in told a.kind a.values.now true (eq-eqb _ _ c.if1.true)
+pub returns-then-kind-eq0 : goal.returns-then-kind-eq0
+returns-then-kind-eq0 c = let a = c.args in told a.kind a.values.now true (eq-eqb _ _ c.if-kind-eq0.true)
 
-sum-lower-requires : tie.Need-sum-lower-requires
-sum-lower-requires c κs = search rules
-
-returns-2 : tie.Need-returns-2
-returns-2 c = let a = c.before.before.before.args in c.sum-lower.ensures ∙ told a.kind a.values.now false (ne_eqb _ _ c.before.if1.false)
-
-pub bytes-taken-spec : {M : Type 1} → statement M
-bytes-taken-spec = tie.close (tie.spec returns sum-lower-requires returns-2)
+pub returns : goal.returns
+returns c = let a = c.args in c.sum_lower.ensures ∙ told a.kind a.values.now false (ne_eqb _ _ c.if-kind-eq0.false)

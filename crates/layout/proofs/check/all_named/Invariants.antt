@@ -1,0 +1,20 @@
+-- `all_named` meets its contract: the names left are legal exactly when all are, since each one passed is. Assumes nothing.
+use mathlib.Core.Path.{◌≡◌, refl, sym, ap, ◌∙◌}
+use mathlib.Core.Bool.{Bool, true, false}
+use mathlib.Core.List.{List}
+use Prim.Native.Nat.{ℕ, ◌+◌, ◌*◌, ◌-◌, ◌≤◌, ◌<◌}
+use native.Mathlib.Omega.{arith}
+use borrow.Author.Rules.{rules}
+use borrow.Author.Tests.{not-true, not-false}
+use lib.ListN.{length, take, drop}
+use lib.Seq.{drop-drop}
+use Rattle.words.proofs.Steps.{drop-next, drop-end}
+use Rattle.names.specs.Names.{NAMEWORDS, holds_name}
+use Rattle.layout.specs.Damage.{all_named}
+use Rattle.layout.proofs.check.all_named.Given as goal
+
+abbrev pub invariant-loop-i : goal.invariant-loop-i
+invariant-loop-i l = (l.i ≤ length l.heads) × (all_named (drop l.i l.heads) (drop (NAMEWORDS * l.i) l.names) ≡ all_named l.heads l.names)
+
+abbrev pub decreases-loop-i : goal.decreases-loop-i
+decreases-loop-i l = length l.heads - l.i

@@ -1,0 +1,18 @@
+-- `sum_bytes` meets its contract: what is summed and what is left to sum are the whole sum, which fits a word; the heads left count
+-- values that are left. Assumes nothing.
+use mathlib.Core.Path.{◌≡◌}
+use Prim.Native.Nat.{◌+◌, ◌-◌, ◌≤◌}
+use native.Mathlib.Nat.{zero-add}
+use native.Mathlib.Omega.{arith}
+use lib.ListN.{length, drop}
+use Rattle.words.specs.Halves.{sum}
+use Rattle.layout.specs.Damage.{total_bytes}
+use Rattle.layout.proofs.Passing.{sum_left, few-here, total-next, total-end, total-most}
+use Rattle.layout.proofs.taken.sum_bytes.Given as goal
+
+abbrev pub invariant-loop-i : goal.invariant-loop-i
+invariant-loop-i l = (l.i ≤ length l.heads) × (l.at + sum (drop l.i l.heads) ≤ length l.values)
+    × (l.total + total_bytes (drop l.i l.heads) (drop l.at l.values) ≡ total_bytes l.heads l.values)
+
+abbrev pub decreases-loop-i : goal.decreases-loop-i
+decreases-loop-i l = length l.heads - l.i
