@@ -1,0 +1,50 @@
+-- `insert` meets its contract: at its spot the name is put among the others, unless it is one of them. Assumes nothing.
+use mathlib.Core.Path.{◌≡◌, refl, sym, subst, ◌∙◌}
+use mathlib.Core.List.{List}
+use Prim.Native.Nat.{ℕ, ◌+◌, ◌≤◌}
+use native.Mathlib.Omega.{arith}
+use borrow.Author.Rules.{rules}
+use Rattle.words.proofs.Over.{length_over}
+use Rattle.order.specs.Places.{Inserting, Inserts, name_at, names_at, spot, raised}
+use Rattle.order.specs.declared.Spot.{Spot}
+use Rattle.order.specs.declared.Spot.TheVariants.{At, Held}
+use Rattle.order.proofs.Named.{length-names_at}
+use Rattle.order.proofs.Spots.{inserted-here, inserted-held, spot-within}
+use Rattle.order.proofs.Raising.{names-raised, places-raised}
+use Rattle.order.proofs.insert.Goals as goal
+
+module _ (ws : List ℕ) (held place : ℕ) (ps : List ℕ) (I : Inserting ws held place ps) (r : Spot) (e : r ≡ spot (name_at ws place) (names_at ws held ps)) where
+  stays : r ≡ Held → Inserts ws held place ps held ps
+  stays q =
+      record {
+        places = I.places;
+        few = omega arith;
+        sized = refl;
+        names = sym (inserted-held (name_at ws place) (names_at ws held ps) (sym e ∙ q));
+      }
+
+  module _ (at : ℕ) (q : r ≡ At at) where
+    within : at ≤ held
+    within = omega (arith, spot-within (name_at ws place) (names_at ws held ps) at (sym e ∙ q), length-names_at ws held ps I.places)
+
+    goes_in : (after : List ℕ) → after ≡ raised at held place ps → Inserts ws held place ps (held + 1) after
+    goes_in after a =
+        subst (λ (l : List ℕ). Inserts ws held place ps (held + 1) l) (sym a)
+        (record {
+          places = places-raised at held place ps within I.room ws I.named I.places;
+          few = omega arith;
+          sized = length_over at _ ps;
+          names = names-raised at held place ps within I.room ws ∙ sym (inserted-here (name_at ws place) (names_at ws held ps) at (sym e ∙ q));
+        })
+
+pub returns-in_default : goal.returns-in_default
+returns-in_default c =
+    stays _ _ _ _ c.requires _ c.spot_of_lem.ensures c.in_default.is
+
+pub raise-requires : goal.raise-requires
+raise-requires c =
+    (within _ _ _ _ c.requires _ c.spot_of_lem.ensures _ c.in-At.is, c.requires.room)
+
+pub returns : goal.returns
+returns c =
+    goes_in _ _ _ _ c.requires _ c.spot_of_lem.ensures _ c.in-At.is _ c.raise.ensures

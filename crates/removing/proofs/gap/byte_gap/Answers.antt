@@ -1,0 +1,75 @@
+-- `byte_gap` meets its contract: the bytes before the statements, and of them, are taken by the values that their heads count.
+-- Assumes nothing.
+use mathlib.Core.Path.{◌≡◌, ap, ap₂, ◌∙◌}
+use mathlib.Core.List.{List}
+use Prim.Native.Nat.{ℕ, ◌+◌, ◌-◌, ◌≤◌}
+use native.Mathlib.Omega.{arith}
+use borrow.Author.Rules.{rules}
+use lib.ListN.{length, take, drop, length-drop}
+use Rattle.words.specs.Halves.{sum}
+use Rattle.words.specs.Over.{part}
+use Rattle.words.proofs.Steps.{rest_part}
+use Rattle.layout.specs.Limits.{HEADS_AT}
+use Rattle.layout.specs.Memory.{value_count, byte_count, value_words}
+use Rattle.layout.specs.Damage.{Counted, total_bytes}
+use Rattle.layout.proofs.Areas.{length-values}
+use Rattle.removing.specs.Gaps.{values_before, bytes_before, bytes_inside, Spanned}
+use Rattle.removing.specs.declared.gap.Gap.{Gap}
+use Rattle.removing.proofs.gap.byte_gap.Goals as goal
+
+-- ---- over plain lists: heads and values that were read
+module _ (s : Gap) (m vs : List ℕ) (z : Spanned s m) (v : vs ≡ value_words m) where
+  all-values : length vs ≡ value_count m
+  all-values = ap length v ∙ length-values m z.sizes
+
+  counted-before : (hs : List ℕ) → hs ≡ part HEADS_AT s.before m → Counted hs vs
+  counted-before hs h = record { within = omega (arith, ap sum h, all-values, z.values); few = omega (arith, all-values, z.sizes.values) }
+
+  module _ (k : ℕ) (e : k ≡ values_before s m) where
+    skipped : k ≤ length vs
+    skipped = omega (arith, all-values, z.values)
+
+    rest : take (length vs - k) (drop k vs) ≡ drop (values_before s m) (value_words m)
+    rest = rest_part vs k ∙ ap₂ drop e v
+
+    counted-inside : (hs : List ℕ) → hs ≡ part (HEADS_AT + s.before) s.inside m → Counted hs (take (length vs - k) (drop k vs))
+    counted-inside hs h =
+        let l : length (take (length vs - k) (drop k vs)) ≡ length vs - k = ap length (rest_part vs k) ∙ length-drop k vs in
+        record { within = omega (arith, ap sum h, l, all-values, z.values); few = omega (arith, l, all-values, z.sizes.values) }
+
+pub sum_bytes-before-requires : goal.sum_bytes-before-requires
+sum_bytes-before-requires c = counted-before _ _ _ c.requires c.values_of-values.ensures _ c.part_of.ensures
+
+pub slice_bounds-sum_bytes-count : goal.slice_bounds-sum_bytes-count
+slice_bounds-sum_bytes-count c =
+    omega (arith, skipped _ _ _ c.requires c.values_of-values.ensures _ c.sum_part-skipped.ensures)
+
+pub slice_bounds-sum_bytes-start : goal.slice_bounds-sum_bytes-start
+slice_bounds-sum_bytes-start c =
+    omega (arith, skipped _ _ _ c.requires c.values_of-values.ensures _ c.sum_part-skipped.ensures)
+
+pub sum_bytes-inside-requires : goal.sum_bytes-inside-requires
+sum_bytes-inside-requires c =
+    counted-inside _ _ _ c.requires c.values_of-values.ensures _ c.sum_part-skipped.ensures _ c.part_of-2.ensures
+
+-- both sums are those of the gap
+sum-before : (c : goal.After-shared_slice_known-2-1) → c.sum_bytes-before.result ≡ bytes_before c.args.statements c.args.m.now
+sum-before c =
+    c.sum_bytes-before.ensures ∙ ap₂ total_bytes c.part_of.ensures c.values_of-values.ensures
+
+sum_inside : (c : goal.After-shared_slice_known-2-1) → c.sum_bytes-inside.result ≡ bytes_inside c.args.statements c.args.m.now
+sum_inside c =
+    c.sum_bytes-inside.ensures ∙ ap₂ total_bytes c.part_of-2.ensures (rest _ _ _ c.requires c.values_of-values.ensures _ c.sum_part-skipped.ensures)
+
+pub overflow_sub-result : goal.overflow_sub-result
+overflow_sub-result c = omega (arith, sum-before c, c.requires.bytes)
+
+pub overflow_sub-result-2 : goal.overflow_sub-result-2
+overflow_sub-result-2 c = omega (arith, sum-before c, sum_inside c, c.requires.bytes)
+
+pub returns : goal.returns
+returns c =
+    let m = c.args.m.now in
+    let e = sum-before c in
+    let f = sum_inside c in
+    λ i. record { before = e i; inside = f i; after = byte_count m - e i - f i }

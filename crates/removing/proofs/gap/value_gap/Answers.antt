@@ -1,0 +1,12 @@
+-- `value_gap` meets its contract: the values before the statements, and of them, are sums of the heads' numbers. Assumes nothing.
+use Prim.Native.Nat.{◌-◌}
+use borrow.Author.Rules.{rules}
+use Rattle.layout.specs.Memory.{value_count}
+use Rattle.removing.proofs.gap.value_gap.Goals as goal
+
+pub returns : goal.returns
+returns c =
+    let m = c.args.m.now in
+    let e = c.sum_part-before.ensures in
+    let f = c.sum_part-inside.ensures in
+    λ i. record { before = e i; inside = f i; after = value_count m - e i - f i }
