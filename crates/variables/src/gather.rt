@@ -19,9 +19,9 @@ use words::read::part_of;
 
 // The numbers of the variable that begins at `start`, none of its values being a string, are written from the buffer's start on.
 pub fn gather(pool: &[u64], name: &[u8], start: Start, out: &mut [f64])
-    requires pool_value { (sound pool.now ≡ true) × (legal name.now ≡ true) }
+    requires pool_and_name { (sound pool.now ≡ true) × (legal name.now ≡ true) }
     requires begins { Begins name.now pool.now start.statement start.value start.count start.strings }
-    requires strings_value { (start.strings ≡ 0) × (start.count ≤ length out.old) }
+    requires numbers_with_room { (start.strings ≡ 0) × (start.count ≤ length out.old) }
     ensures { out.new ≡ over 0 (doubles name.now (decode pool.now)) out.old }
 {
     let words = pack(name);
@@ -47,7 +47,7 @@ pub fn gather(pool: &[u64], name: &[u8], start: Start, out: &mut [f64])
 // The doubles of these bits are written from place `at` on.
 fn copy_doubles(bits: &[u64], at: usize, out: &mut [f64])
     requires bits_in_bounds { at + length bits.now ≤ length out.old }
-    requires bits_value { all small bits.now ≡ true }
+    requires all_small { all small bits.now ≡ true }
     ensures { out.new ≡ over at (map (of_bits binary64) bits.now) out.old }
 {
     let mut j = 0;

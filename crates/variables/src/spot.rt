@@ -21,7 +21,7 @@ pub struct Spot {
 
 // The value at a place of the variable that begins at `start`, counted from 0.
 pub fn locate(pool: &[u64], name: &[u8], start: Start, place: usize) -> Spot
-    requires pool_value { (sound pool.now ≡ true) × (legal name.now ≡ true) }
+    requires pool_and_name { (sound pool.now ≡ true) × (legal name.now ≡ true) }
     requires begins { Begins name.now pool.now start.statement start.value start.count start.strings }
     requires place_lt_count { place < start.count }
     ensures { Stands name.now pool.now place result.statement result.value result.index }

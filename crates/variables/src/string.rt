@@ -40,7 +40,7 @@ pub fn string(pool: &[u64], name: &[u8], place: usize, out: &mut [u8]) -> Found
 
 // The place of a string's first byte: after the bytes of all statements before its own, and of its statement's strings before it.
 fn first_byte(pool: &[u64], spot: Spot) -> usize
-    requires pool_value { sound pool.now ≡ true }
+    requires undamaged { sound pool.now ≡ true }
     requires spelt { Spelt pool.now spot.statement spot.value spot.index }
     ensures { result ≡ byte_before pool.now spot.statement spot.value spot.index }
 {
@@ -53,7 +53,7 @@ fn first_byte(pool: &[u64], spot: Spot) -> usize
 
 // The string of this value, whose bytes begin there, is written if it has room.
 fn copy(pool: &[u64], value: usize, byte: usize, out: &mut [u8]) -> Found
-    requires pool_value { sound pool.now ≡ true }
+    requires undamaged { sound pool.now ≡ true }
     requires placed { Placed pool.now value byte }
     ensures { Copies pool.now value byte out.old result out.new }
 {
