@@ -39,12 +39,12 @@ module _ (ws : List ℕ) (held place : ℕ) (ps : List ℕ) (I : Inserting ws he
 
 pub returns-in_default : goal.returns-in_default
 returns-in_default c =
-    stays _ _ _ _ c.requires _ c.spot_of_lem.ensures c.in_default.is
+    stays _ _ _ _ c.requires _ c.spot_of-spot.ensures c.in_default.is
 
 pub raise-requires : goal.raise-requires
 raise-requires c =
-    (within _ _ _ _ c.requires _ c.spot_of_lem.ensures _ c.in-At.is, c.requires.room)
+    (within _ _ _ _ c.requires _ c.spot_of-spot.ensures _ c.in-At.is, c.requires.room)
 
 pub returns : goal.returns
 returns c =
-    goes_in _ _ _ _ c.requires _ c.spot_of_lem.ensures _ c.in-At.is _ c.raise.ensures
+    goes_in _ _ _ _ c.requires _ c.spot_of-spot.ensures _ c.in-At.is _ c.raise.ensures

@@ -8,13 +8,8 @@ use Rattle.words.specs.Halves.{all}
 use Rattle.order.specs.Order.{inserted}
 use Rattle.order.specs.Places.{Places, Legible, Inserting, Inserts, name_count, name_at, names_at, cut_names, ordered}
 use Rattle.order.proofs.Named.{ordered-next, ordered_end}
+use Rattle.order.proofs.order.Invariants.{Sorted}
 use Rattle.order.proofs.order.Goals as goal
-
--- the names from place i on are in order
-record Sorted (ws : List ℕ) (held i : ℕ) (ps : List ℕ) : Type 0 where
-  places : Places ws held ps
-  few : i + held ≤ name_count ws
-  names : names_at ws held ps ≡ ordered (drop i (cut_names (name_count ws) ws))
 
 none-sorted : (ws ps : List ℕ) → Sorted ws 0 (name_count ws) ps
 unfolding all

@@ -10,6 +10,12 @@ use Rattle.order.specs.Places.{Places, Legible, Inserting, Inserts, name_count, 
 use Rattle.order.proofs.Named.{ordered-next, ordered_end}
 use Rattle.order.proofs.order.Given as goal
 
+-- the names from place i on are in order
+pub record Sorted (ws : List ℕ) (held i : ℕ) (ps : List ℕ) : Type 0 where
+  pub places : Places ws held ps
+  pub few : i + held ≤ name_count ws
+  pub names : names_at ws held ps ≡ ordered (drop i (cut_names (name_count ws) ws))
+
 abbrev pub invariant-loop-i : goal.invariant-loop-i
 invariant-loop-i l = (Sorted l.names l.held l.i l.places) × (length l.places ≡ length l.initial.places)
 
