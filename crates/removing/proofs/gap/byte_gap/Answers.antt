@@ -52,24 +52,15 @@ pub sum_bytes-inside-requires : goal.sum_bytes-inside-requires
 sum_bytes-inside-requires c =
     counted-inside _ _ _ c.requires c.values_of-values.ensures _ c.sum_part-skipped.ensures _ c.part_of-2.ensures
 
--- both sums are those of the gap
-sum-before : (c : goal.After-shared_slice_known-2-1) → c.sum_bytes-before.result ≡ bytes_before c.args.statements c.args.m.now
-sum-before c =
-    c.sum_bytes-before.ensures ∙ ap₂ total_bytes c.part_of.ensures c.values_of-values.ensures
-
-sum_inside : (c : goal.After-shared_slice_known-2-1) → c.sum_bytes-inside.result ≡ bytes_inside c.args.statements c.args.m.now
-sum_inside c =
-    c.sum_bytes-inside.ensures ∙ ap₂ total_bytes c.part_of-2.ensures (rest _ _ _ c.requires c.values_of-values.ensures _ c.sum_part-skipped.ensures)
-
 pub overflow_sub-result : goal.overflow_sub-result
-overflow_sub-result c = omega (arith, sum-before c, c.requires.bytes)
+overflow_sub-result c = omega (arith, (c.sum_bytes-before.ensures ∙ ap₂ total_bytes c.part_of.ensures c.values_of-values.ensures), c.requires.bytes)
 
 pub overflow_sub-result-2 : goal.overflow_sub-result-2
-overflow_sub-result-2 c = omega (arith, sum-before c, sum_inside c, c.requires.bytes)
+overflow_sub-result-2 c = omega (arith, (c.sum_bytes-before.ensures ∙ ap₂ total_bytes c.part_of.ensures c.values_of-values.ensures), (c.sum_bytes-inside.ensures ∙ ap₂ total_bytes c.part_of-2.ensures (rest _ _ _ c.requires c.values_of-values.ensures _ c.sum_part-skipped.ensures)), c.requires.bytes)
 
 pub returns : goal.returns
 returns c =
     let m = c.args.m.now in
-    let e = sum-before c in
-    let f = sum_inside c in
+    let e = (c.sum_bytes-before.ensures ∙ ap₂ total_bytes c.part_of.ensures c.values_of-values.ensures) in
+    let f = (c.sum_bytes-inside.ensures ∙ ap₂ total_bytes c.part_of-2.ensures (rest _ _ _ c.requires c.values_of-values.ensures _ c.sum_part-skipped.ensures)) in
     λ i. record { before = e i; inside = f i; after = byte_count m - e i - f i }

@@ -51,30 +51,22 @@ pub byte_gap-bytes-requires : goal.byte_gap-bytes-requires
 byte_gap-bytes-requires c =
     subst (λ (g : Gap). Spanned g c.args.m.now) (sym c.statement_gap-statements.ensures) c.requires.rest
 
--- once the gaps are found, they fit
-found : (c : goal.After-byte_gap-bytes) → Found c.args.place c.args.m.now c.text_gap-texts.result c.statement_gap-statements.result c.value_gap-values.result c.byte_gap-bytes.result
-found c =
-    find _ _ _ _ _ _ c.text_gap-texts.ensures c.statement_gap-statements.ensures c.value_gap-values.ensures c.byte_gap-bytes.ensures
-
-fits : (c : goal.After-byte_gap-bytes) → Closes c.text_gap-texts.result c.statement_gap-statements.result c.value_gap-values.result c.byte_gap-bytes.result c.args.m.now
-fits c = fit _ _ _ _ _ _ (found c) c.requires
-
 pub close_areas-requires : goal.close_areas-requires
-close_areas-requires c = fits c.before
+close_areas-requires c = (fit _ _ _ _ _ _ (find _ _ _ _ _ _ c.text_gap-texts.ensures c.statement_gap-statements.ensures c.value_gap-values.ensures c.byte_gap-bytes.ensures) c.requires)
 
 pub count-requires : goal.count-requires
-count-requires c = omega (arith, (fits c.before.before.before.before.before).texts)
+count-requires c = omega (arith, (fit _ _ _ _ _ _ (find _ _ _ _ _ _ c.text_gap-texts.ensures c.statement_gap-statements.ensures c.value_gap-values.ensures c.byte_gap-bytes.ensures) c.requires).texts)
 
 pub count-requires-2 : goal.count-requires-2
-count-requires-2 c = omega (arith, (fits c.before.before.before.before.before.before).statements)
+count-requires-2 c = omega (arith, (fit _ _ _ _ _ _ (find _ _ _ _ _ _ c.text_gap-texts.ensures c.statement_gap-statements.ensures c.value_gap-values.ensures c.byte_gap-bytes.ensures) c.requires).statements)
 
 pub count-requires-3 : goal.count-requires-3
-count-requires-3 c = omega (arith, (fits c.before.before.before.before.before.before.before).values)
+count-requires-3 c = omega (arith, (fit _ _ _ _ _ _ (find _ _ _ _ _ _ c.text_gap-texts.ensures c.statement_gap-statements.ensures c.value_gap-values.ensures c.byte_gap-bytes.ensures) c.requires).values)
 
 pub count-requires-4 : goal.count-requires-4
-count-requires-4 c = omega (arith, (fits c.before.before.before.before.before.before.before.before).bytes)
+count-requires-4 c = omega (arith, (fit _ _ _ _ _ _ (find _ _ _ _ _ _ c.text_gap-texts.ensures c.statement_gap-statements.ensures c.value_gap-values.ensures c.byte_gap-bytes.ensures) c.requires).bytes)
 
 pub returns : goal.returns
 returns c =
-    out _ _ _ _ _ _ (found c.before.before.before.before.before.before.before.before.before.before.before.before) _ _ _ _ _ _
+    out _ _ _ _ _ _ (find _ _ _ _ _ _ c.text_gap-texts.ensures c.statement_gap-statements.ensures c.value_gap-values.ensures c.byte_gap-bytes.ensures) _ _ _ _ _ _
     c.count.ensures c.count-2.ensures c.count-3.ensures c.count-4.ensures c.close_areas.ensures c.write_front.ensures
