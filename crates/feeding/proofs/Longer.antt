@@ -3,8 +3,8 @@ use Prim.Native.Nat.{ℕ, ◌+◌, ◌-◌, ◌≤◌, ◌<◌}
 use native.Mathlib.Omega.{arith}
 use mathlib.Core.Path.{◌≡◌, sym, ap, ◌∙◌}
 use mathlib.Core.Bool.{false}
-use mathlib.Core.List.{List, [], ◌∷◌, ◌++◌, map}
-use lib.ListN.{length, take, drop, get_or, length-append, length-drop, length-map, take-append-drop}
+use mathlib.Core.List.{List, [], ◌∷◌, ◌++◌}
+use lib.ListN.{length, take, drop, get_or, length-append, length-drop, take-append-drop}
 use lib.Seq.{take_all, length-take-le}
 use Rattle.value.specs.Classes.{blank}
 use Rattle.feeding.specs.Kept.{ROOM, squeezed, keep, keep_all}
@@ -12,10 +12,6 @@ use Rattle.feeding.specs.Stored.{line, Keeps, slid, Slides}
 use Rattle.feeding.specs.declared.kept.Kept.{Kept}
 use Rattle.feeding.proofs.Squeezing.{squeezed-long, squeezed-short}
 use Rattle.feeding.proofs.Storing.{keep_all-append, keep_all-room, keep-full, slid-first}
-
--- an array that a struct holds, as what owning the struct tells of it
-pub array_long : (xs : List ℕ) → length (map (λ (v : ℕ). v) xs) ≡ ROOM → length xs ≡ ROOM
-array_long xs e = sym (length-map xs (λ (v : ℕ). v)) ∙ e
 
 -- ---- a full line
 

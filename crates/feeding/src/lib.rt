@@ -1,2 +1,4 @@
 // A text that arrives in parts, and what is kept of it between two of them: document 02, K5.
+#![tactic(auto)]
+
 pub mod kept;

@@ -1,0 +1,36 @@
+-- `put_last` meets its contract: from the end on, a blank is nothing, and the first other byte takes the last place. Assumes nothing.
+use Prim.Native.Nat.{ℕ, ◌+◌, ◌-◌}
+use native.Mathlib.Omega.{arith}
+use mathlib.Core.Path.{◌≡◌, sym, ap, ◌∙◌}
+use lib.ListN.{take}
+use lib.Seq.{take-length}
+use Rattle.feeding.specs.Kept.{keep_all}
+use Rattle.feeding.proofs.Storing.{blank-last, byte_last}
+use Rattle.feeding.proofs.kept.put_last.Goals as goal
+
+pub loop-i-init : goal.loop-i-init
+loop-i-init c = (omega arith, ap (keep_all c.args.full) (sym (take-length c.args.run.now)))
+
+pub loop-i-preserved : goal.loop-i-preserved
+loop-i-preserved c =
+    let a = c.loop-i in
+    let z : a.i ≡ a.i - 1 + 1 = omega arith in (
+      omega arith,
+      a.invariant.1 ∙ ap (λ (n : ℕ). keep_all c.args.full (take n c.args.run.now)) z
+          ∙ blank-last c.args.full c.args.run.now (a.i - 1) c.well_formed.0.1.0.1 (c.requires (omega arith)) (omega arith)
+          (sym c.in_class.ensures ∙ c.if-in_class.true),
+    )
+
+pub returns-in-loop-i : goal.returns-in-loop-i
+returns-in-loop-i c =
+    let a = c.loop-i in
+    let z : a.i ≡ a.i - 1 + 1 = omega arith in
+    sym (a.invariant.1 ∙ ap (λ (n : ℕ). keep_all c.args.full (take n c.args.run.now)) z
+    ∙ byte_last c.args.full c.args.run.now (a.i - 1) c.well_formed.0.1.0.1 (c.requires (omega arith)) (omega arith)
+    (sym c.in_class.ensures ∙ c.if-in_class.false))
+
+pub returns : goal.returns
+returns c =
+    let a = c.loop-i in
+    let z : a.i ≡ 0 = omega arith in
+    sym (rw z at a.invariant.1)
