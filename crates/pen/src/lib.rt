@@ -1,4 +1,6 @@
 // Bytes, numbers and lines, written at a place of a lent buffer. Each function answers the place after what it wrote.
+#![tactic(auto)]
+
 pub mod digits;
 pub mod quoted;
 

@@ -1,7 +1,6 @@
 -- `write_quoted` meets its contract: a quote, the bytes, a quote and a line end are written one after the other. Assumes nothing.
 use mathlib.Core.List.{List, [], ◌∷◌, ◌++◌}
 use Prim.Native.Nat.{ℕ}
-use borrow.Author.Rules.{rules}
 use Rattle.plain.specs.Bytes.{LF, QUOTE}
 use Rattle.value.specs.Strings.{doubled, quoted}
 use Rattle.words.specs.Over.{part}
@@ -9,8 +8,7 @@ use Rattle.words.specs.Placed.{Room, Writes}
 use Rattle.words.proofs.Placed.{room-first, room-then, writes_then}
 use Rattle.octets.specs.Octets.{octets}
 use Rattle.pen.specs.Quoted.{Quoting, Doubling}
-use Rattle.pen.proofs.quoted.write_quoted.Statement.{statement}
-use Rattle.pen.proofs.quoted.write_quoted.Tie as tie
+use Rattle.pen.proofs.quoted.write_quoted.Goals as goal
 
 module _ (at : ℕ) (ws : List ℕ) (from n : ℕ) (out : List ℕ) (Q : Quoting at ws from n out) where
   abbrev inner : List ℕ
@@ -47,46 +45,19 @@ module _ (at : ℕ) (ws : List ℕ) (from n : ℕ) (out : List ℕ) (Q : Quoting
         all-written : {r : ℕ} {o : List ℕ} → Writes c (LF ∷ []) z r o → Writes at (quoted (part from n (octets ws)) ++ (LF ∷ [])) out r o
         all-written e = writes_then (QUOTE ∷ []) rest u (writes_then closed (LF ∷ []) writes-closed e)
 
-write-byte-requires : tie.Need-write-byte-requires
-write-byte-requires c κs = search rules
+pub write_doubled-close-requires : goal.write_doubled-close-requires
+write_doubled-close-requires c =
+    doubling _ _ _ _ _ c.requires _ _ c.write_byte-inside.ensures
 
-write-doubled-requires : tie.Need-write-doubled-requires
-write-doubled-requires c κs =
-    let u = c.before.before.before in
-    doubling _ _ _ _ _ u.before.before.before.before.requires _ _ u.write_byte.ensures
+pub write_byte-end-requires : goal.write_byte-end-requires
+write_byte-end-requires c =
+    room-close _ _ _ _ _ c.requires _ _ c.write_byte-inside.ensures _ _ c.write_doubled-close.ensures
 
-write-byte-requires-2 : tie.Need-write-byte-requires-2
-write-byte-requires-2 c κs =
-    let v = c.before.before.before in
-    let u = v.before.before.before.before in
-    room-close _ _ _ _ _ u.before.before.before.before.requires _ _ u.write_byte.ensures _ _ v.write-doubled.ensures
+pub write_byte-requires : goal.write_byte-requires
+write_byte-requires c =
+    room-end _ _ _ _ _ c.requires _ _ c.write_byte-inside.ensures _ _ c.write_doubled-close.ensures _ _ c.write_byte-end.ensures
 
-write-byte-requires-3 : tie.Need-write-byte-requires-3
-write-byte-requires-3 c κs =
-    let w = c.before.before.before in
-    let v = w.before.before.before.before in
-    let u = v.before.before.before.before in
-    room-end _ _ _ _ _ u.before.before.before.before.requires _ _ u.write_byte.ensures _ _ v.write-doubled.ensures _ _ w.write-byte2.ensures
-
-same_length : tie.Need-same-length
-same_length c = search rules
-
-returns : tie.Need-returns
+pub returns : goal.returns
 returns c =
-    let e = c.before.before in
-    let w = e.before.before.before.before in
-    let v = w.before.before.before.before in
-    let u = v.before.before.before.before in
-    all-written _ _ _ _ _ u.before.before.before.before.requires _ _ u.write_byte.ensures _ _ v.write-doubled.ensures _ _ w.write-byte2.ensures
-    e.write-byte3.ensures
-
-pub write-quoted-spec : {M : Type 1} → statement M
-write-quoted-spec =
-    tie.close
-    (tie.spec
-    write-byte-requires
-    write-doubled-requires
-    write-byte-requires-2
-    write-byte-requires-3
-    same_length
-    returns)
+    all-written _ _ _ _ _ c.requires _ _ c.write_byte-inside.ensures _ _ c.write_doubled-close.ensures _ _ c.write_byte-end.ensures
+    c.write_byte.ensures

@@ -8,15 +8,7 @@ use Prim.Native.Nat.{ℕ, zero, suc, ◌-◌, ◌/◌, ◌%◌, ◌≤◌, ◌<�
 use lib.ListN.{length, drop, set, length-set}
 use lib.Seq.{drop-length, drop-cons, drop-set-lt, get_or-set_same, append_snoc}
 use Rattle.pen.specs.Digits.{digit_of, digits}
-use Rattle.pen.proofs.digits.spell.Statement.{statement}
-use Rattle.pen.proofs.digits.spell.Tie as tie
-
-abbrev invariant-loop : tie.invariant-loop
-invariant-loop w text₀ i₀ rest₀ text i rest =
-    (length text ≡ length text₀) × (i ≤ length text) × (digits i rest ++ drop i text ≡ digits (length text₀) w)
-
-abbrev decreases-loop : tie.decreases-loop
-decreases-loop w text₀ i₀ rest₀ text i rest = i
+use Rattle.pen.proofs.digits.spell.Goals as goal
 
 -- after a store at `j`, the list from there on begins with what was stored
 stored : (text : List ℕ) (j g : ℕ) → j < length text → drop j (set text j g) ≡ g ∷ drop (suc j) text
@@ -33,50 +25,20 @@ moved zero rest g text some h e = absurd (not-suc-le-zero some)
 moved (suc j) rest g text some h e =
     rw (sub-one, stored text j g h, e) (sym (append_snoc (digits j (rest / 16)) (digit_of (rest % 16)) (drop (suc j) text)))
 
-loop-holds : tie.Need-loop-init invariant-loop decreases-loop
-loop-holds c = (refl, omega arith, rw (drop-length, append-nil))
+pub loop-i-init : goal.loop-i-init
+loop-i-init c = (refl, omega arith, rw (drop-length, append-nil))
 
-sub-i : tie.Need-overflow-sub-i invariant-loop decreases-loop
-sub-i c = omega arith
-
-digit-requires : tie.Need-digit-requires invariant-loop decreases-loop
-digit-requires c κs = omega arith
-
-slice-write-text : tie.Need-slice-write-text invariant-loop decreases-loop
-slice-write-text c = omega arith
-
-loop-less : tie.Need-loop-smaller invariant-loop decreases-loop
-loop-less c = omega arith
-
-loop-again : tie.Need-loop-preserved invariant-loop decreases-loop
-loop-again c =
-    let at = c.before.before.loop in (
+pub loop-i-preserved : goal.loop-i-preserved
+loop-i-preserved c =
+    let at = c.loop-i in (
       simp length-set at.invariant.0,
       simp length-set (omega arith),
       moved at.i at.rest c.digit.result at.text (omega arith) at.invariant.1 c.digit.ensures ∙ at.invariant.2,
     )
 
-same_length : tie.Need-same-length invariant-loop decreases-loop
-same_length c = omega arith
-
-returns : tie.Need-returns invariant-loop decreases-loop
+pub returns : goal.returns
 unfolding digits
 returns c =
-    let at = c.before.loop in
+    let at = c.loop-i in
     let none : 0 ≡ at.i = omega arith in
     ap (λ (i : ℕ). digits i at.rest ++ drop i at.text) none ∙ at.invariant.2
-
-pub spell-spec : {M : Type 1} → statement M
-spell-spec =
-    tie.close
-    (tie.spec
-    invariant-loop
-    decreases-loop
-    loop-holds
-    sub-i
-    digit-requires
-    slice-write-text
-    loop-less
-    loop-again
-    same_length
-    returns)

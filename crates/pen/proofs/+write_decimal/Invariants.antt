@@ -1,0 +1,5 @@
+-- The number falls: its tenth part is smaller.
+use Rattle.pen.proofs.+write_decimal.Given as goal
+
+abbrev pub decreases-write_decimal : goal.decreases-write_decimal
+decreases-write_decimal l = l.n
