@@ -1,4 +1,6 @@
 // Where an open text stands between two parts, and the words of a pool that keep it: document 02, K5.
+#![tactic(auto)]
+
 mod limits;
 pub mod mark;
 mod number;
