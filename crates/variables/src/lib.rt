@@ -1,4 +1,6 @@
 // A variable in a pool's memory: where it begins, its numbers, and its strings.
+#![tactic(auto)]
+
 pub mod gather;
 pub mod name;
 pub mod spot;

@@ -1,5 +1,5 @@
 -- `copy_doubles` meets its contract: one double more is written each turn, and bits of a size below 2^200 are no NaN's. Assumes nothing.
-use Prim.Native.Nat.{ℕ, ◌+◌, ◌-◌, ◌≤◌}
+use Prim.Native.Nat.{ℕ, ◌+◌}
 use mathlib.Core.Path.{◌≡◌, refl, sym, ap, ◌∙◌}
 use mathlib.Core.Bool.{true, not}
 use mathlib.Core.List.{List, map}
@@ -7,7 +7,7 @@ use native.Mathlib.Omega.{arith}
 use borrow.Author.Rules.{rules}
 use lib.Dec.{T}
 use lib.Ieee.{Float, of_bits, binary64, nan_bits}
-use lib.ListN.{length, take, get_or, set, length-set}
+use lib.ListN.{get_or, set, length-set}
 use lib.Seq.{take_all}
 use Rattle.words.specs.Over.{over}
 use Rattle.plain.proofs.Each.{each_at}
@@ -26,7 +26,7 @@ no_nan w e = rw (small-number w e) tt
 pub float_from_bits-out : goal.float_from_bits-out
 float_from_bits-out c =
     let a = c.args in
-    no_nan _ (each_at (λ w. small w ≡ true) a.bits.now c.loop-j.j 0 c.loop-j-test.true (all-each small a.bits.now c.requires.1))
+    no_nan _ (each_at (λ w. small w ≡ true) a.bits.now c.loop-j.j 0 c.loop-j-test.true (all-each small a.bits.now c.requires.all_small))
 
 pub loop-j-preserved : goal.loop-j-preserved
 loop-j-preserved c =
@@ -36,9 +36,6 @@ loop-j-preserved c =
           ∙ over-turn-map (of_bits binary64) a.at a.bits.now a.out.now c.loop-j.j 0 c.loop-j-test.true,
       simp length-set c.loop-j.invariant.2,
     )
-
-pub shape_of-out : goal.shape_of-out
-shape_of-out c = c.loop-j.invariant.2
 
 pub returns : goal.returns
 returns c =

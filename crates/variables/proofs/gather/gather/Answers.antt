@@ -1,99 +1,87 @@
 -- `gather` meets its contract: what is left to write makes, from the place reached on, the variable that is wanted. Assumes nothing.
-use mathlib.Core.Path.{◌≡◌, ap, ◌∙◌}
+use mathlib.Core.Path.{ap, ◌∙◌}
 use mathlib.Core.List.{List, map}
-use Prim.Native.Nat.{ℕ, ◌+◌, ◌-◌, ◌≤◌, ◌<◌}
+use Prim.Native.Nat.{ℕ, ◌<◌}
 use native.Mathlib.Omega.{arith}
-use borrow.Author.Rules.{rules}
 use lib.Ieee.{binary64, of_bits}
-use lib.ListN.{length, get_or}
+use lib.ListN.{length}
 use Rattle.words.specs.Over.{over}
-use Rattle.words.specs.Halves.{lower, all}
+use Rattle.words.specs.Halves.{all}
 use Rattle.words.proofs.Each.{words_of}
-use Rattle.layout.specs.Memory.{statement_count, value_words}
+use Rattle.layout.specs.Memory.{statement_count}
 use Rattle.layout.specs.Damage.{small}
 use Rattle.layout.proofs.Areas.{length-values}
 use Rattle.layout.proofs.Sound.{sound-of}
 use Rattle.variables.proofs.Names.{Hands, length-hands, room-hands}
-use Rattle.variables.proofs.Gathering.{Gathered, gathered_none, gathered-all, bits-within, bits_small, length-bits, gather-other, gather-room, gather-copy}
+use Rattle.variables.proofs.Gathering.{gathered_none, gathered-all, bits-within, bits_small, length-bits, gather-other, gather-room, gather-copy}
 use Rattle.variables.proofs.gather.gather.Goals as goal
 
 pub heads_of-heads-requires : goal.heads_of-heads-requires
-heads_of-heads-requires c = (sound-of _ c.requires.0.0).sizes
+heads_of-heads-requires c = (sound-of _ c.requires.pool_and_name.0).sizes
 
 pub names_of-names-requires : goal.names_of-names-requires
-names_of-names-requires c = (sound-of _ c.requires.0.0).sizes
+names_of-names-requires c = (sound-of _ c.requires.pool_and_name.0).sizes
 
 pub values_of-values-requires : goal.values_of-values-requires
-values_of-values-requires c = (sound-of _ c.requires.0.0).sizes
+values_of-values-requires c = (sound-of _ c.requires.pool_and_name.0).sizes
 
 pub loop-s-init : goal.loop-s-init
 loop-s-init c =
     let H : Hands c.args.pool.now c.args.name.now _ _ _ = record {
-      sound = sound-of c.args.pool.now c.requires.0.0;
+      sound = sound-of c.args.pool.now c.requires.pool_and_name.0;
       fit = words_of c.args.pool.now (λ i. omega (arith, c.shared_slice_known-1.given i));
-      legal= = c.requires.0.1;
+      legal= = c.requires.pool_and_name.1;
       words= = c.pack-words.ensures;
       heads= = c.heads_of-heads.ensures;
       names= = c.names_of-names.ensures;
     } in
-    (H, c.values_of-values.ensures, gathered_none _ _ _ _ _ _ _ c.requires.1.0 c.requires.1.1.0 c.requires.1.1.1)
+    (H, c.values_of-values.ensures, gathered_none _ _ _ _ _ _ _ c.requires.begins c.requires.numbers_with_room.0 c.requires.numbers_with_room.1)
 
 -- in the loop, at the statement s
-abbrev In : Type 0
-In = tie.In-loop invariant-loop decreases-loop
-
-there : (c : In) → c.before.loop.s < statement_count c.before.before.before.before.before.before.before.before.before.args.pool.now
-there c = omega (arith, c.loop-test.true, length-hands c.before.loop.invariant.0)
+there : {m name words heads names : List ℕ} {s : ℕ} → Hands m name words heads names → s < length heads → s < statement_count m
+there H h = let e = length-hands H in omega arith
 
 pub overflow_add-value : goal.overflow_add-value
 overflow_add-value c =
     let v = c.loop-s.invariant in
-    omega (arith, bits-within v.0 _ v.1 v.2 (there c), ap length v.1, length-values _ v.0.sound.sizes, v.0.sound.sizes.values)
+    omega (arith, bits-within v.0 _ v.1 v.2 (there c.loop-s.invariant.0 c.loop-s-test.true), ap length v.1, length-values _ v.0.sound.sizes, v.0.sound.sizes.values)
 
 pub is_named-requires : goal.is_named-requires
-is_named-requires c = omega (arith, there c, room-hands c.loop-s.invariant.0)
+is_named-requires c = omega (arith, there c.loop-s.invariant.0 c.loop-s-test.true, room-hands c.loop-s.invariant.0)
 
 pub part_of-requires : goal.part_of-requires
 part_of-requires c =
     let v = c.loop-s.invariant in
-    bits-within v.0 _ v.1 v.2 (there c)
-
--- the buffer has room for the values of a statement with the name
-space : (c : goal.Then-is_named)
-    → c.loop-s.at + lower (get_or c.heads_of-heads.result.now c.loop-s.s 0)
-    ≤ length c.loop-s.out
-space c =
-    let v = c.loop-s.invariant in
-    gather-room v.0 _ v.1 v.2 (there c) _ c.is_named.ensures c.if-is_named.true
+    bits-within v.0 _ v.1 v.2 (there c.loop-s.invariant.0 c.loop-s-test.true)
 
 pub copy_doubles-requires : goal.copy_doubles-requires
 copy_doubles-requires c =
     let v = c.loop-s.invariant in
-    let e = c.part_of.ensures in (
-      omega (arith, ap length e, length-bits v.0 _ v.1 v.2 (there c), space c.before.before),
-      ap (all small) e ∙ bits_small v.0 _ v.1 v.2 (there c) _ c.is_named.ensures c.if-is_named.true,
-    )
+    let e = c.part_of.ensures in
+    let t = there v.0 c.loop-s-test.true in
+    record {
+      bits_in_bounds = omega (arith, ap length e, length-bits v.0 _ v.1 v.2 t, gather-room v.0 _ v.1 v.2 t _ c.is_named.ensures c.if-is_named.true);
+      all_small = ap (all small) e ∙ bits_small v.0 _ v.1 v.2 t _ c.is_named.ensures c.if-is_named.true;
+    }
 
 pub overflow_add-at : goal.overflow_add-at
 overflow_add-at c =
-    omega (arith, space c.before.before.before.before.before, c.loop-s.invariant.2.long, c.well-formed)
+    let v = c.loop-s.invariant in
+    omega (arith, gather-room v.0 _ v.1 v.2 (there v.0 c.loop-s-test.true) _ c.is_named.ensures c.if-is_named.true, v.2.long)
 
 pub loop-s-preserved-then-is_named : goal.loop-s-preserved-then-is_named
 loop-s-preserved-then-is_named c =
     let v = c.loop-s.invariant in (
       v.0,
       v.1,
-      gather-copy v.0 _ v.1 v.2 (there c) _ c.is_named.ensures c.if-is_named.true _
+      gather-copy v.0 _ v.1 v.2 (there c.loop-s.invariant.0 c.loop-s-test.true) _ c.is_named.ensures c.if-is_named.true _
           (c.copy_doubles.ensures ∙ ap (λ (l : List ℕ). over c.loop-s.at (map (of_bits binary64) l) c.loop-s.out) c.part_of.ensures),
     )
 
 pub loop-s-preserved : goal.loop-s-preserved
 loop-s-preserved c =
     let v = c.loop-s.invariant in
-    (v.0, v.1, gather-other v.0 _ v.1 v.2 (there c) _ c.is_named.ensures c.if-is_named.false)
-
-pub shape_of-out : goal.shape_of-out
-shape_of-out c = c.loop-s.invariant.2.long
+    (v.0, v.1, gather-other v.0 _ v.1 v.2 (there c.loop-s.invariant.0 c.loop-s-test.true) _ c.is_named.ensures c.if-is_named.false)
 
 pub returns : goal.returns
 returns c =

@@ -1,20 +1,10 @@
 -- `gather` meets its contract: what is left to write makes, from the place reached on, the variable that is wanted. Assumes nothing.
-use mathlib.Core.Path.{◌≡◌, ap, ◌∙◌}
-use mathlib.Core.List.{List, map}
-use Prim.Native.Nat.{ℕ, ◌+◌, ◌-◌, ◌≤◌, ◌<◌}
-use native.Mathlib.Omega.{arith}
-use borrow.Author.Rules.{rules}
-use lib.Ieee.{binary64, of_bits}
-use lib.ListN.{length, get_or}
-use Rattle.words.specs.Over.{over}
-use Rattle.words.specs.Halves.{lower, all}
-use Rattle.words.proofs.Each.{words_of}
-use Rattle.layout.specs.Memory.{statement_count, value_words}
-use Rattle.layout.specs.Damage.{small}
-use Rattle.layout.proofs.Areas.{length-values}
-use Rattle.layout.proofs.Sound.{sound-of}
-use Rattle.variables.proofs.Names.{Hands, length-hands, room-hands}
-use Rattle.variables.proofs.Gathering.{Gathered, gathered_none, gathered-all, bits-within, bits_small, length-bits, gather-other, gather-room, gather-copy}
+use mathlib.Core.Path.{◌≡◌}
+use Prim.Native.Nat.{◌-◌}
+use lib.ListN.{length}
+use Rattle.layout.specs.Memory.{value_words}
+use Rattle.variables.proofs.Names.{Hands}
+use Rattle.variables.proofs.Gathering.{Gathered}
 use Rattle.variables.proofs.gather.gather.Given as goal
 
 abbrev pub invariant-loop-s : goal.invariant-loop-s

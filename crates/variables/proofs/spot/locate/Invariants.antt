@@ -1,13 +1,8 @@
 -- `locate` meets its contract: the value that is wanted is always in a statement that is not passed yet. Assumes nothing.
-use Prim.Native.Nat.{◌-◌, ◌<◌}
-use native.Mathlib.Omega.{arith}
-use borrow.Author.Rules.{rules}
+use Prim.Native.Nat.{◌-◌}
 use lib.ListN.{length}
-use Rattle.words.proofs.Each.{words_of}
-use Rattle.layout.specs.Memory.{statement_count}
-use Rattle.layout.proofs.Sound.{sound-of}
-use Rattle.variables.proofs.Names.{Hands, length-hands, room-hands}
-use Rattle.variables.proofs.Seeking.{Sought, sought-none, sought-found, sought-few, seek-other, seek-here, seek-past}
+use Rattle.variables.proofs.Names.{Hands}
+use Rattle.variables.proofs.Seeking.{Sought}
 use Rattle.variables.proofs.spot.locate.Given as goal
 
 abbrev pub invariant-loop-s : goal.invariant-loop-s

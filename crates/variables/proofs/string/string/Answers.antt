@@ -2,8 +2,6 @@
 -- located is copied. Assumes nothing.
 use mathlib.Core.Path.{sym, ◌∙◌}
 use native.Mathlib.Omega.{arith}
-use borrow.Author.Rules.{rules}
-use borrow.Author.Tests.{not-true, not-false}
 use Rattle.layout.proofs.Sound.{sound-of}
 use Rattle.layout.proofs.Holds.{decode-legal}
 use Rattle.variables.proofs.Presence.{absent-empty, illegal-absent}
@@ -32,14 +30,15 @@ returns-then-start c =
 
 pub locate-spot-requires : goal.locate-spot-requires
 locate-spot-requires c =
-    (
-      (c.requires, sym c.is_legal.ensures ∙ c.if-not-is_legal.false),
-      (c.walk-start.ensures, omega (arith, c.if-place-eq0.false, c.if-start-place.false)),
-    )
+    record {
+      pool_and_name = (c.requires, sym c.is_legal.ensures ∙ c.if-not-is_legal.false);
+      begins = c.walk-start.ensures;
+      place_lt_count = omega (arith, c.if-place-eq0.false, c.if-start-place.false);
+    }
 
 pub first_byte-byte-requires : goal.first_byte-byte-requires
 first_byte-byte-requires c =
-    (c.requires, stands-spelt (sound-of c.args.pool.now c.requires) c.locate-spot.ensures)
+    record { undamaged = c.requires; spelt = stands-spelt (sound-of c.args.pool.now c.requires) c.locate-spot.ensures }
 
 pub overflow_add-value : goal.overflow_add-value
 overflow_add-value c =
@@ -49,7 +48,7 @@ overflow_add-value c =
 pub copy-requires : goal.copy-requires
 copy-requires c =
     let a = begins-strings c.walk-start.ensures (omega (arith, c.if-start.false)) in
-    (c.requires, stands-placed (sound-of c.args.pool.now c.requires) c.locate-spot.ensures a _ c.first_byte-byte.ensures)
+    record { undamaged = c.requires; placed = stands-placed (sound-of c.args.pool.now c.requires) c.locate-spot.ensures a _ c.first_byte-byte.ensures }
 
 pub returns : goal.returns
 returns c =

@@ -5,8 +5,6 @@ use mathlib.Core.Bool.{true}
 use mathlib.Core.List.{List}
 use Prim.Native.Nat.{ℕ}
 use native.Mathlib.Omega.{arith}
-use borrow.Author.Rules.{rules}
-use borrow.Author.Tests.{not-true, not-false}
 use lib.ListN.{length}
 use Rattle.layout.specs.Memory.{decode}
 use Rattle.layout.specs.Damage.{sound}
@@ -50,10 +48,11 @@ returns-then-out-count c =
 
 pub gather-requires : goal.gather-requires
 gather-requires c =
-    (
-      (c.requires, sym c.is_legal.ensures ∙ c.if-not-is_legal.false),
-      (c.walk-start.ensures, (omega (arith, c.if-start-gt0.false), c.if-out-count.false)),
-    )
+    record {
+      pool_and_name = (c.requires, sym c.is_legal.ensures ∙ c.if-not-is_legal.false);
+      begins = c.walk-start.ensures;
+      numbers_with_room = (omega (arith, c.if-start-gt0.false), c.if-out-count.false);
+    }
 
 pub returns : goal.returns
 returns c =

@@ -1,17 +1,16 @@
 -- `walk` meets its contract: the statements passed hold no direct assignment to the name, and the first that is met is the last of all.
 -- Assumes nothing.
 use mathlib.Core.Path.{◌≡◌, sym, ap, ◌∙◌}
-use Prim.Native.Nat.{ℕ, ◌+◌, ◌≤◌, ◌<◌}
+use Prim.Native.Nat.{ℕ, ◌+◌, ◌<◌}
 use native.Mathlib.Nat.{le_refl}
 use native.Mathlib.Omega.{arith}
-use borrow.Author.Rules.{rules}
-use lib.ListN.{length, take}
+use lib.ListN.{take}
 use lib.Seq.{take-length}
 use Rattle.words.specs.Halves.{sum}
 use Rattle.words.proofs.Each.{words_of}
 use Rattle.layout.proofs.Sound.{sound-of}
 use Rattle.variables.proofs.Names.{Hands, length-hands, room-hands}
-use Rattle.variables.proofs.Passing.{sum_back, Passed, passed_none, values-left, count_left, strings-left, pass-other, pass-append, begins-here, begins-first}
+use Rattle.variables.proofs.Passing.{sum_back, passed_none, values-left, count_left, strings-left, pass-other, pass-append, begins-here, begins-first}
 use Rattle.variables.proofs.walk.walk.Goals as goal
 
 pub texts_of-texts-requires : goal.texts_of-texts-requires
@@ -58,36 +57,33 @@ pub overflow_sub-s : goal.overflow_sub-s
 overflow_sub-s c = omega (arith, c.loop-left.invariant.2)
 
 -- a statement is left, and it is before those passed
-abbrev In : Type 0
-In = tie.In-loop invariant-loop decreases-loop invariant-texts decreases-texts
-
-some : (c : In) → 0 < c.before.loop.s
-some c = omega (arith, c.before.loop.invariant.2, c.loop-test.true)
+some : (earlier : ℕ) {s left : ℕ} → s ≡ earlier + left → 0 < left → 0 < s
+some earlier e h = omega arith
 
 pub offset_bounds-heads-s : goal.offset_bounds-heads-s
-offset_bounds-heads-s c = omega (arith, c.loop-left.invariant.3.within, length-hands c.loop-left.invariant.0, some c)
+offset_bounds-heads-s c = omega (arith, c.loop-left.invariant.3.within, length-hands c.loop-left.invariant.0, some _ c.loop-left.invariant.2 c.loop-left-test.true)
 
 pub bounds-heads-s : goal.bounds-heads-s
 bounds-heads-s c =
-    omega (arith, c.loop-left.invariant.3.within, length-hands c.loop-left.invariant.0, some c)
+    omega (arith, c.loop-left.invariant.3.within, length-hands c.loop-left.invariant.0, some _ c.loop-left.invariant.2 c.loop-left-test.true)
 
 pub overflow_sub-value : goal.overflow_sub-value
 overflow_sub-value c =
-    values-left c.loop-left.invariant.0 c.loop-left.invariant.3 (some c)
+    values-left c.loop-left.invariant.0 c.loop-left.invariant.3 (some _ c.loop-left.invariant.2 c.loop-left-test.true)
 
 pub is_named-requires : goal.is_named-requires
 is_named-requires c =
-    omega (arith, c.loop-left.invariant.3.within, room-hands c.loop-left.invariant.0, some c)
+    omega (arith, c.loop-left.invariant.3.within, room-hands c.loop-left.invariant.0, some _ c.loop-left.invariant.2 c.loop-left-test.true)
 
 pub overflow_add-count : goal.overflow_add-count
 overflow_add-count c =
     let v = c.loop-left.invariant in
-    omega (arith, count_left v.0 v.3 (some c), v.0.sound.sizes.values)
+    omega (arith, count_left v.0 v.3 (some _ c.loop-left.invariant.2 c.loop-left-test.true), v.0.sound.sizes.values)
 
 pub overflow_add-strings : goal.overflow_add-strings
 overflow_add-strings c =
     let v = c.loop-left.invariant in
-    omega (arith, strings-left v.0 v.3 (some c) _ c.strings_in-strings.ensures, v.0.sound.sizes.values)
+    omega (arith, strings-left v.0 v.3 (some _ c.loop-left.invariant.2 c.loop-left-test.true) _ c.strings_in-strings.ensures, v.0.sound.sizes.values)
 
 pub loop-left-preserved-else-head-eq-DIRECT : goal.loop-left-preserved-else-head-eq-DIRECT
 loop-left-preserved-else-head-eq-DIRECT c =
@@ -95,13 +91,13 @@ loop-left-preserved-else-head-eq-DIRECT c =
       v.0,
       v.1,
       omega (arith, v.2, c.loop-left-test.true),
-      pass-append v.0 v.3 (some c) _ c.is_named.ensures c.if-is_named.true _ c.strings_in-strings.ensures c.if-head-eq-DIRECT.false,
+      pass-append v.0 v.3 (some _ c.loop-left.invariant.2 c.loop-left-test.true) _ c.is_named.ensures c.if-is_named.true _ c.strings_in-strings.ensures c.if-head-eq-DIRECT.false,
     )
 
 pub loop-left-preserved : goal.loop-left-preserved
 loop-left-preserved c =
     let v = c.loop-left.invariant in
-    (v.0, v.1, omega (arith, v.2, c.loop-left-test.true), pass-other v.0 v.3 (some c) _ c.is_named.ensures c.if-is_named.false)
+    (v.0, v.1, omega (arith, v.2, c.loop-left-test.true), pass-other v.0 v.3 (some _ c.loop-left.invariant.2 c.loop-left-test.true) _ c.is_named.ensures c.if-is_named.false)
 
 pub returns-after-texts : goal.returns-after-texts
 unfolding sum
@@ -113,4 +109,4 @@ returns-after-texts c =
 pub returns-then-head-eq-DIRECT : goal.returns-then-head-eq-DIRECT
 returns-then-head-eq-DIRECT c =
     let v = c.loop-left.invariant in
-    begins-here v.0 v.3 (some c) _ c.is_named.ensures c.if-is_named.true _ c.strings_in-strings.ensures c.if-head-eq-DIRECT.true
+    begins-here v.0 v.3 (some _ c.loop-left.invariant.2 c.loop-left-test.true) _ c.is_named.ensures c.if-is_named.true _ c.strings_in-strings.ensures c.if-head-eq-DIRECT.true

@@ -1,17 +1,11 @@
 -- `walk` meets its contract: the statements passed hold no direct assignment to the name, and the first that is met is the last of all.
 -- Assumes nothing.
-use mathlib.Core.Path.{◌≡◌, sym, ap, ◌∙◌}
-use Prim.Native.Nat.{ℕ, ◌+◌, ◌≤◌, ◌<◌}
-use native.Mathlib.Nat.{le_refl}
-use native.Mathlib.Omega.{arith}
-use borrow.Author.Rules.{rules}
+use mathlib.Core.Path.{◌≡◌}
+use Prim.Native.Nat.{◌+◌, ◌≤◌}
 use lib.ListN.{length, take}
-use lib.Seq.{take-length}
 use Rattle.words.specs.Halves.{sum}
-use Rattle.words.proofs.Each.{words_of}
-use Rattle.layout.proofs.Sound.{sound-of}
-use Rattle.variables.proofs.Names.{Hands, length-hands, room-hands}
-use Rattle.variables.proofs.Passing.{sum_back, Passed, passed_none, values-left, count_left, strings-left, pass-other, pass-append, begins-here, begins-first}
+use Rattle.variables.proofs.Names.{Hands}
+use Rattle.variables.proofs.Passing.{Passed}
 use Rattle.variables.proofs.walk.walk.Given as goal
 
 -- within a text: so many of its statements are left
