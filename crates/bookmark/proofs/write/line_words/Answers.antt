@@ -23,7 +23,7 @@ loop-i-preserved c =
     let i = c.loop-i.i in (
       omega arith,
       c.set_byte.ensures ∙ ap (inked i (get_or bs i 0 ∷ [])) c.loop-i.invariant.1
-          ∙ packed-on bs (bytes-from bs (λ k. omega (arith, c.shared_slice_known-in-loop-i-1.given k))) i (omega arith) (omega arith),
+          ∙ packed-on bs (bytes-from bs (λ k. omega (arith, c.type_inv.bytes k))) i (omega arith) (omega arith),
     )
 
 pub returns : goal.returns
