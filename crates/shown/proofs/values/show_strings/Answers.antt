@@ -24,25 +24,11 @@ use Rattle.shown.specs.Shown.{value_line, value_lines}
 use Rattle.shown.specs.Shows.{spelt, Spelling}
 use Rattle.shown.proofs.Writing.{writes-none, writes-all, room_next, writes-next}
 use Rattle.shown.proofs.Strings.{Short, string-at, string-next, string-within}
-use Rattle.shown.proofs.values.show_strings.Statement.{statement}
-use Rattle.shown.proofs.values.show_strings.Tie as tie
-
--- the strings as values
-abbrev held : (bytes : List ℕ) (from : ℕ) (lengths : List ℕ) → List Datum
-held bytes from ls = map string (cut_strings ls (drop from (octets bytes)))
+use Rattle.shown.proofs.values.show_strings.Invariants.{held, Spelled}
+use Rattle.shown.proofs.values.show_strings.Goals as goal
 
 length-held : (bytes : List ℕ) (from : ℕ) (ls : List ℕ) → length (held bytes from ls) ≡ length ls
 length-held bytes from ls = length-map (cut_strings ls (drop from (octets bytes))) string ∙ many-cut 1 ls (drop from (octets bytes))
-
-record Spelled (bytes : List ℕ) (from : ℕ) (ls : List ℕ) (at : ℕ) (out : List ℕ) (byte end i : ℕ) (now : List ℕ) : Type 0 where
-  place : byte ≡ from + sum (take i ls)
-  lines : Writes at (flat value_line (take i (held bytes from ls))) out end now
-
-abbrev invariant-loop : tie.invariant-loop
-invariant-loop bytes from lengths out₀ at byte₀ end₀ i₀ out byte end i = Spelled bytes from lengths at out₀ byte end i out
-
-abbrev decreases-loop : tie.decreases-loop
-decreases-loop bytes from lengths out₀ at byte₀ end₀ i₀ out byte end i = length lengths - i
 
 none-spelled : (bytes : List ℕ) (from : ℕ) (ls : List ℕ) (at : ℕ) (out : List ℕ) → Spelled bytes from ls at out from at 0 out
 unfolding sum
@@ -93,59 +79,23 @@ all-spelled : (bytes : List ℕ) (from : ℕ) (ls : List ℕ) (at : ℕ) (out : 
 unfolding value_lines
 all-spelled bytes from ls at out byte end i now h P = writes-all value_line (held bytes from ls) i (omega (arith, length-held bytes from ls)) P.lines
 
-loop-holds : tie.Need-loop-init invariant-loop decreases-loop
-loop-holds c = none-spelled _ _ _ _ _
+pub loop-i-init : goal.loop-i-init
+loop-i-init c = none-spelled _ _ _ _ _
 
-mul-n : tie.Need-overflow-mul-n invariant-loop decreases-loop
-mul-n c = omega arith
+pub write_quoted-end-requires : goal.write_quoted-end-requires
+write_quoted-end-requires c =
+    quoting _ _ _ _ _ c.requires c.loop-i.i c.loop-i-test.true _ _ _ c.loop-i.invariant
 
-shared-slice-read-n : tie.Need-shared-slice-read-n invariant-loop decreases-loop
-shared-slice-read-n c = omega arith
+pub overflow_add-byte : goal.overflow_add-byte
+overflow_add-byte c =
+    omega (arith, fits _ _ _ _ _ c.requires c.loop-i.i c.loop-i-test.true _ _ _ c.loop-i.invariant, c.requires.fits)
 
-write-quoted-requires : tie.Need-write-quoted-requires invariant-loop decreases-loop
-write-quoted-requires c κs =
-    let t = c.before.before in
-    let s = t.before.before.before.before.before in
-    quoting _ _ _ _ _ s.requires t.before.loop.i t.loop-test.true _ _ _ t.before.loop.invariant
+pub loop-i-preserved : goal.loop-i-preserved
+loop-i-preserved c =
+    one_more _ _ _ _ _ c.requires c.loop-i.i c.loop-i-test.true _ _ _ c.loop-i.invariant _ _ c.write_quoted-end.ensures
 
-add-byte : tie.Need-overflow-add-byte invariant-loop decreases-loop
-add-byte c =
-    let t = c.before.before.before.before.before in
-    let s = t.before.before.before.before.before in
-    omega (arith, fits _ _ _ _ _ s.requires t.before.loop.i t.loop-test.true _ _ _ t.before.loop.invariant, s.requires.fits)
+pub shape_of-out : goal.shape_of-out
+shape_of-out c = writes-length c.loop-i.invariant.lines
 
-add-i : tie.Need-overflow-add-i invariant-loop decreases-loop
-add-i c = omega arith
-
-loop-less : tie.Need-loop-smaller invariant-loop decreases-loop
-loop-less c = omega arith
-
-loop-again : tie.Need-loop-preserved invariant-loop decreases-loop
-loop-again c =
-    let w = c.before.before in
-    let t = w.before.before.before in
-    let s = t.before.before.before.before.before in
-    one_more _ _ _ _ _ s.requires t.before.loop.i t.loop-test.true _ _ _ t.before.loop.invariant _ _ w.write-quoted.ensures
-
-same_length : tie.Need-same-length invariant-loop decreases-loop
-same_length c = writes-length c.before.loop.invariant.lines
-
-returns : tie.Need-returns invariant-loop decreases-loop
-returns c = all-spelled _ _ _ _ _ _ _ c.before.loop.i _ c.loop-test.false c.before.loop.invariant
-
-pub show-strings-spec : {M : Type 1} → statement M
-show-strings-spec =
-    tie.close
-    (tie.spec
-    invariant-loop
-    decreases-loop
-    loop-holds
-    mul-n
-    shared-slice-read-n
-    write-quoted-requires
-    add-byte
-    add-i
-    loop-less
-    loop-again
-    same_length
-    returns)
+pub returns : goal.returns
+returns c = all-spelled _ _ _ _ _ _ _ c.loop-i.i _ c.loop-i-test.false c.loop-i.invariant

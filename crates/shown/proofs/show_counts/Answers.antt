@@ -19,23 +19,8 @@ use Rattle.shown.specs.Shows.{line, size, listed, Adding, Adds, Counting, Counts
 use Rattle.shown.specs.declared.Ends.{Ends}
 use Rattle.shown.proofs.Writing.{writes-none, writes-all, room_next, writes-next, flat-next, flat-within}
 use Rattle.shown.proofs.Held.{first, place-named, within-listed, holding, name-listed}
-use Rattle.shown.proofs.show_counts.Statement.{statement}
-use Rattle.shown.proofs.show_counts.Tie as tie
-
--- a variable's values
-abbrev valued : (m name : List ℕ) → List Datum
-valued m name = variable name (decode m)
-
--- the first k variables are listed
-record Listed (m : List ℕ) (ns : List (List ℕ)) (at : ℕ) (out : List ℕ) (k : ℕ) (ends : Ends) (out' : List ℕ) : Type 0 where
-  lines : Writes at (flat (line m) (take k ns)) out ends.at out'
-  total : ends.total ≡ length (flat (valued m) (take k ns))
-
-abbrev invariant-loop : tie.invariant-loop
-invariant-loop pool places count out₀ at names ends₀ k₀ out ends k = Listed pool (listed pool count places) at out₀ k ends out
-
-abbrev decreases-loop : tie.decreases-loop
-decreases-loop pool places count out₀ at names ends₀ k₀ out ends k = count - k
+use Rattle.shown.proofs.show_counts.Invariants.{valued, Listed}
+use Rattle.shown.proofs.show_counts.Goals as goal
 
 none-listed : (m : List ℕ) (ns : List (List ℕ)) (at : ℕ) (out : List ℕ) → Listed m ns at out 0 (record { at = at; total = 0 }) out
 unfolding flat
@@ -88,71 +73,33 @@ module _ (m : List ℕ) (held : ℕ) (ps : List ℕ) (at : ℕ) (out : List ℕ)
         total = L.total ∙ ap (λ (l : List (List ℕ)). length (flat (valued m) l)) (take_all k ns l);
       }
 
-names-of-requires : tie.Need-names-of-requires invariant-loop decreases-loop
-names-of-requires c κs = (sound-of _ c.before.before.before.requires.whole).sizes
+pub names_of-names-requires : goal.names_of-names-requires
+names_of-names-requires c = (sound-of _ c.requires.whole).sizes
 
-loop-holds : tie.Need-loop-init invariant-loop decreases-loop
-loop-holds c = none-listed _ _ _ _
+pub loop-k-init : goal.loop-k-init
+loop-k-init c = none-listed _ _ _ _
 
-mul-name-at : tie.Need-overflow-mul-name-at invariant-loop decreases-loop
-mul-name-at c = let s = c.before.before.before.before.before.before in omega (arith, s.requires.within.few)
+pub offset_bounds-places-k : goal.offset_bounds-places-k
+offset_bounds-places-k c = omega (arith, c.requires.within.few)
 
-shared-slice-read-name-at : tie.Need-shared-slice-read-name-at invariant-loop decreases-loop
-shared-slice-read-name-at c = let s = c.before.before.before.before.before.before.before in omega (arith, s.requires.within.few)
+pub bounds-places-k : goal.bounds-places-k
+bounds-places-k c = omega (arith, c.requires.within.few)
 
-name-at-requires : tie.Need-name-at-requires invariant-loop decreases-loop
-name-at-requires c κs =
-    let t = c.before in
-    let n = t.before.before in
-    let s = n.before.before.before.before in
-    place-named _ (sound-of _ s.requires.whole) _ _ s.requires.within t.before.loop.k t.loop-test.true _ n.names_of.ensures
+pub name_at-words-requires : goal.name_at-words-requires
+name_at-words-requires c =
+    place-named _ (sound-of _ c.requires.whole) _ _ c.requires.within c.loop-k.k c.loop-k-test.true _ c.names_of-names.ensures
 
-show-count-requires : tie.Need-show-count-requires invariant-loop decreases-loop
-show-count-requires c κs =
-    let w = c.before in
-    let t = w.before.before in
-    let n = t.before.before in
-    let s = n.before.before.before.before in
-    adding _ _ _ _ _ s.requires _ t.loop-test.true _ _ t.before.loop.invariant _ _ n.names_of.ensures w.name-at.ensures
+pub show_count-ends-requires : goal.show_count-ends-requires
+show_count-ends-requires c =
+    adding _ _ _ _ _ c.requires _ c.loop-k-test.true _ _ c.loop-k.invariant _ _ c.names_of-names.ensures c.name_at-words.ensures
 
-add-k : tie.Need-overflow-add-k invariant-loop decreases-loop
-add-k c = omega arith
+pub loop-k-preserved : goal.loop-k-preserved
+loop-k-preserved c =
+    one_more _ _ _ _ _ c.requires _ c.loop-k-test.true _ _ c.loop-k.invariant _ _ c.names_of-names.ensures c.name_at-words.ensures _ _ c.show_count-ends.ensures
 
-loop-less : tie.Need-loop-smaller invariant-loop decreases-loop
-loop-less c = omega arith
+pub shape_of-out : goal.shape_of-out
+shape_of-out c = writes-length c.loop-k.invariant.lines
 
-loop-again : tie.Need-loop-preserved invariant-loop decreases-loop
-loop-again c =
-    let v = c.before.before in
-    let w = v.before.before in
-    let t = w.before.before in
-    let n = t.before.before in
-    let s = n.before.before.before.before in
-    one_more _ _ _ _ _ s.requires _ t.loop-test.true _ _ t.before.loop.invariant _ _ n.names_of.ensures w.name-at.ensures _ _ v.show-count.ensures
-
-same_length : tie.Need-same-length invariant-loop decreases-loop
-same_length c = writes-length c.before.loop.invariant.lines
-
-returns : tie.Need-returns invariant-loop decreases-loop
+pub returns : goal.returns
 returns c =
-    let l = c.before in
-    let s = l.before.before.before.before.before in
-    all_listed _ _ _ _ _ s.requires l.loop.k c.loop-test.false _ _ l.loop.invariant
-
-pub show-counts-spec : {M : Type 1} → statement M
-show-counts-spec =
-    tie.close
-    (tie.spec
-    invariant-loop
-    decreases-loop
-    names-of-requires
-    loop-holds
-    mul-name-at
-    shared-slice-read-name-at
-    name-at-requires
-    show-count-requires
-    add-k
-    loop-less
-    loop-again
-    same_length
-    returns)
+    all_listed _ _ _ _ _ c.requires c.loop-k.k c.loop-k-test.false _ _ c.loop-k.invariant

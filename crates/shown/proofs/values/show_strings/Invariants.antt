@@ -1,0 +1,41 @@
+-- `show_strings` meets its contract: after i turns the lines of the first i strings are written, and the next one's bytes begin where
+-- theirs end. Assumes nothing.
+use mathlib.Core.Path.{◌≡◌, sym, ap, subst, ◌∙◌}
+use mathlib.Core.List.{List, [], ◌∷◌, ◌++◌, map}
+use Prim.Native.Nat.{ℕ, ◌+◌, ◌-◌, ◌≤◌, ◌<◌}
+use native.Mathlib.Nat.{add-zero}
+use native.Mathlib.Omega.{arith}
+use lib.ListN.{length, take, drop, get_or, length-map, get_or-map}
+use lib.Seq.{drop-drop}
+use Rattle.plain.specs.Bytes.{LF}
+use Rattle.value.specs.Strings.{quoted}
+use Rattle.words.specs.Over.{part}
+use Rattle.words.specs.Halves.{sum}
+use Rattle.words.specs.Placed.{Room, Writes}
+use Rattle.words.proofs.Each.{all-each}
+use Rattle.words.proofs.Placed.{writes-length}
+use Rattle.octets.specs.Octets.{octets}
+use Rattle.layout.specs.State.{flat}
+use Rattle.layout.specs.Memory.{cut_strings}
+use Rattle.layout.proofs.Spelling.{many-cut}
+use Rattle.variables.specs.Variables.{Datum, string}
+use Rattle.pen.specs.Quoted.{Quoting}
+use Rattle.shown.specs.Shown.{value_line, value_lines}
+use Rattle.shown.specs.Shows.{spelt, Spelling}
+use Rattle.shown.proofs.Writing.{writes-none, writes-all, room_next, writes-next}
+use Rattle.shown.proofs.Strings.{Short, string-at, string-next, string-within}
+use Rattle.shown.proofs.values.show_strings.Given as goal
+
+-- the strings as values
+abbrev pub held : (bytes : List ℕ) (from : ℕ) (lengths : List ℕ) → List Datum
+held bytes from ls = map string (cut_strings ls (drop from (octets bytes)))
+
+pub record Spelled (bytes : List ℕ) (from : ℕ) (ls : List ℕ) (at : ℕ) (out : List ℕ) (byte end i : ℕ) (now : List ℕ) : Type 0 where
+  pub place : byte ≡ from + sum (take i ls)
+  pub lines : Writes at (flat value_line (take i (held bytes from ls))) out end now
+
+abbrev pub invariant-loop-i : goal.invariant-loop-i
+invariant-loop-i l = Spelled l.bytes l.from l.lengths l.at l.initial.out l.byte l.end l.i l.out
+
+abbrev pub decreases-loop-i : goal.decreases-loop-i
+decreases-loop-i l = length l.lengths - l.i
