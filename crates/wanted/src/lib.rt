@@ -1,3 +1,5 @@
 // "Elements wanted": a body's variables by their names, found in a pool and counted.
+#![tactic(auto)]
+
 pub mod elements;
 pub mod name;
