@@ -1,4 +1,6 @@
 // "The degree in BODYs_MAX_PHASE_DEGREE. Read it: absent means 1; otherwise one value, 1, 2 or 3."
+#![tactic(auto)]
+
 ghost use Rattle.std.specs.Prelude.{◌≡◌};
 ghost use Rattle.rotation.specs.Elements.{CUBIC};
 ghost use Rattle.layout.specs.Memory.{decode};

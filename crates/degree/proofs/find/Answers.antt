@@ -1,0 +1,11 @@
+-- `find` meets its contract: its test is that of `degree_where`. Assumes nothing.
+use Rattle.degree.specs.Degree.{degree_where}
+use Rattle.degree.proofs.find.Goals as goal
+
+pub returns-then-wanted : goal.returns-then-wanted
+unfolding degree_where
+returns-then-wanted c = rw c.if-wanted.true c.read.ensures
+
+pub returns : goal.returns
+unfolding degree_where
+returns c = rw c.if-wanted.false
