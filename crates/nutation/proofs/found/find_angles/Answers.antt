@@ -1,0 +1,9 @@
+-- `find_angles` meets its contract: where none are wanted, none are found and nothing is written. Assumes nothing.
+use Rattle.nutation.proofs.Looked.{nothing}
+use Rattle.nutation.proofs.found.find_angles.Goals as goal
+
+pub returns-then-wanted : goal.returns-then-wanted
+returns-then-wanted c = rw c.if-wanted.true c.find.ensures
+
+pub returns : goal.returns
+returns c = rw c.if-wanted.false (nothing _)
