@@ -1,10 +1,10 @@
-//! Links `libglobe_c.a`, which `rt staticlib globe_c` makes.
-//! It is looked for in the folder that GLOBE_LIB_DIR names, else where `rt` writes it.
+//! Links `libglobe_c.a`, which `./archive` makes.
+//! It is looked for in the folder that GLOBE_LIB_DIR names, else where `./archive` writes it.
 
 use std::env;
 use std::path::{Path, PathBuf};
 
-/// Where `rt` writes static libraries, from this crate's folder.
+/// Where `./archive` writes the static library, from this crate's folder.
 const DEFAULT_FOLDER: &str = "../../target/staticlib";
 
 fn main() {
@@ -14,7 +14,7 @@ fn main() {
     println!("cargo::rerun-if-changed={}", archive.display());
     if !archive.is_file() {
         println!(
-            "cargo::error=there is no {}: make it by `rt staticlib globe_c` at the top of the \
+            "cargo::error=there is no {}: make it by `./archive` at the top of the \
              repository, or name the folder that has it in GLOBE_LIB_DIR",
             archive.display()
         );
