@@ -1,0 +1,21 @@
+-- `take_lines` meets its contract: after each turn one whole line more is fed, and where no LF is left, only bytes of one line are.
+-- Assumes nothing.
+use Prim.Native.Nat.{◌-◌}
+use native.Mathlib.Omega.{arith}
+use mathlib.Core.Path.{◌≡◌, refl, ◌∙◌}
+use borrow.Author.Rules.{rules}
+use lib.ListN.{length}
+use Rattle.plain.specs.Runs.{past}
+use Rattle.plain.proofs.Places.{past_after}
+use Rattle.value.specs.Classes.{line_byte}
+use Rattle.taking.specs.Taking.{Reaches}
+use Rattle.taking.proofs.Lines.{unbroken-rest, reaches-none, reaches-line}
+use Rattle.taking.proofs.part.take_lines.Given as goal
+
+abbrev pub invariant-loop-end : goal.invariant-loop-end
+invariant-loop-end l = Reaches l.initial.pool l.initial.last l.number-2 l.long-2 l.part l.pool (record { entered = l.last; number = l.number; long = l.long; at = l.at })
+    × (length l.pool ≡ length l.initial.pool)
+    × (l.end ≡ past line_byte l.part l.at)
+
+abbrev pub decreases-loop-end : goal.decreases-loop-end
+decreases-loop-end l = length l.part - l.at
