@@ -1,4 +1,6 @@
 // Orientation and radii of a body, from a pool or the built-in table.
+#![tactic(auto)]
+
 pub mod calls;
 pub mod orientation;
 pub mod radii;
