@@ -1,4 +1,6 @@
 // The names that a query may read: document 02, K14, "Which names a query may read is listed in docs/ and proved to be all of them."
+#![tactic(auto)]
+
 ghost use Rattle.std.specs.Prelude.{[], ◌≤◌, get_or};
 ghost use Rattle.wanted.specs.Names.{LARGEST};
 ghost use Rattle.wanted.specs.Spelling.{Spellable};
