@@ -1,0 +1,6 @@
+-- `by_room` meets its contract: each answer is one of its cases. Assumes nothing.
+use borrow.Author.Rules.{rules}
+use Rattle.closing.proofs.ending.by_room.Goals as goal
+
+pub returns : goal.returns
+returns c = simp c.if-fits.false
