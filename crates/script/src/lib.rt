@@ -1,14 +1,37 @@
 // What the programs read: lines, fields, numbers and counted bytes of an input.
 // Every function takes any bytes; what is not there is empty, and what is no number is broken.
+#![tactic(auto)]
+
 pub mod numbers;
 
-ghost use Rattle.std.specs.Prelude.{◌≡◌, length};
+ghost use Rattle.std.specs.Prelude.{◌≡◌, ◌<◌, length, take, IfOk};
+ghost use Rattle.std.specs.Io.{ReadsAtMost};
+ghost use Rattle.std.specs.Io.KnownBytes.{Consumes, IsAtEnd};
+
+use std::io::{self, Read};
 
 // Room for the longest input.
 pub fn room() -> [u8; 400000]
     ensures { 400000 ≡ length result }
 {
     [0; 400000]
+}
+
+// Reads until the room is full or the input ends; how many bytes came, from the room's start on.
+pub fn read<R: Read>(input: &mut R, room: &mut [u8]) -> io::Result<usize>
+    ensures count { ReadsAtMost result room.new }
+    ensures bytes { IfOk result (λ n. Consumes (R.remaining input.old) (R.remaining input.new) (take n room.new)) }
+    ensures end { IfOk result (λ n. n < length room.new → IsAtEnd (R.remaining input.new)) }
+{
+    let mut at = 0;
+    while at < room.len() {
+        let more = input.read(&mut room[at..])?;
+        if more == 0 {
+            return Ok(at);
+        }
+        at += more;
+    }
+    Ok(at)
 }
 
 // What stands before the first such byte; all, if there is none.
