@@ -3,49 +3,65 @@ ghost use Rattle.std.specs.Prelude.{◌≤◌, length};
 
 use super::{changes, memory, parts, queries};
 use script::numbers;
+use std::io;
 
 // The answer to a call, which a load's text or a feed's part follows. No call is made on more words than the memory has.
-pub fn answer(line: &[u8], text: &[u8], words: &mut [u64], size: usize) {
+pub fn answer(
+    rt: &impl Print,
+    line: &[u8],
+    text: &[u8],
+    words: &mut [u64],
+    size: usize,
+) -> io::Result<()> {
     if line.len() == 0 {
-        return;
+        return Ok(());
     }
     if words.len() < size {
-        return;
+        return Ok(());
     }
     let fields = script::after(line, b' ');
     match line[0] {
-        b'e' => changes::make_empty(words, size),
-        b'l' => changes::load(fields, text, words, size),
-        b'r' => changes::remove(fields, words, size),
-        b'c' => clear_or_close(line, words, size),
-        b'o' => parts::open(fields, words, size),
-        b'd' => parts::drop(words, size),
-        b'f' => fetch_or_feed(line, text, words, size),
-        b'q' => queries::quoted(fields, words, size),
-        b't' => queries::totals(words, size),
-        b'w' => memory::put(fields, words),
-        _ => {}
+        b'e' => changes::make_empty(rt, words, size),
+        b'l' => changes::load(rt, fields, text, words, size),
+        b'r' => changes::remove(rt, fields, words, size),
+        b'c' => clear_or_close(rt, line, words, size),
+        b'o' => parts::open(rt, fields, words, size),
+        b'd' => parts::drop(rt, words, size),
+        b'f' => fetch_or_feed(rt, line, text, words, size),
+        b'q' => queries::quoted(rt, fields, words, size),
+        b't' => queries::totals(rt, words, size),
+        b'w' => {
+            memory::put(fields, words);
+            Ok(())
+        }
+        _ => Ok(())
     }
 }
 
-fn clear_or_close(line: &[u8], words: &mut [u64], size: usize)
+fn clear_or_close(rt: &impl Print, line: &[u8], words: &mut [u64], size: usize) -> io::Result<()>
     requires { size ≤ length words.old }
 {
     if third(line) == b'o' {
-        parts::close(words, size);
+        parts::close(rt, words, size)
     } else {
-        changes::clear(words, size);
+        changes::clear(rt, words, size)
     }
 }
 
-fn fetch_or_feed(line: &[u8], text: &[u8], words: &mut [u64], size: usize)
+fn fetch_or_feed(
+    rt: &impl Print,
+    line: &[u8],
+    text: &[u8],
+    words: &mut [u64],
+    size: usize,
+) -> io::Result<()>
     requires { size ≤ length words.old }
 {
     let fields = script::after(line, b' ');
     if is_feed(line) {
-        parts::feed(fields, text, words, size);
+        parts::feed(rt, fields, text, words, size)
     } else {
-        queries::fetch(fields, words, size);
+        queries::fetch(rt, fields, words, size)
     }
 }
 

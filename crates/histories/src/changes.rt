@@ -3,48 +3,55 @@ ghost use Rattle.std.specs.Prelude.{◌≤◌, length};
 
 use super::replies;
 use script::numbers;
+use std::io;
 
-pub fn make_empty(words: &mut [u64], size: usize)
+pub fn make_empty(rt: &impl Print, words: &mut [u64], size: usize) -> io::Result<()>
     requires { size ≤ length words.old }
 {
     let reply = pool::empty::make_empty(&mut words[0..size]);
-    print::bytes(b"empty");
-    print::field(replies::number(reply));
-    replies::end(reply, words);
+    print::bytes(rt, b"empty")?;
+    print::field(rt, replies::number(reply))?;
+    replies::end(rt, reply, words)
 }
 
-pub fn load(fields: &[u8], text: &[u8], words: &mut [u64], size: usize)
+pub fn load(
+    rt: &impl Print,
+    fields: &[u8],
+    text: &[u8],
+    words: &mut [u64],
+    size: usize,
+) -> io::Result<()>
     requires { size ≤ length words.old }
 {
     let label = label_of(script::before(fields, b' '));
     let count = numbers::natural(script::after(fields, b' ')) as usize;
     let reply = loading::load::load(&mut words[0..size], label, script::first(text, count));
-    print::bytes(b"load");
-    print::field(label as u64);
-    print::field(replies::number(reply));
-    print::field(replies::line(reply));
-    print::field(replies::column(reply));
-    replies::end(reply, words);
+    print::bytes(rt, b"load")?;
+    print::field(rt, label as u64)?;
+    print::field(rt, replies::number(reply))?;
+    print::field(rt, replies::line(reply))?;
+    print::field(rt, replies::column(reply))?;
+    replies::end(rt, reply, words)
 }
 
-pub fn remove(fields: &[u8], words: &mut [u64], size: usize)
+pub fn remove(rt: &impl Print, fields: &[u8], words: &mut [u64], size: usize) -> io::Result<()>
     requires { size ≤ length words.old }
 {
     let label = label_of(fields);
     let reply = pool::remove::remove(&mut words[0..size], label);
-    print::bytes(b"remove");
-    print::field(label as u64);
-    print::field(replies::number(reply));
-    replies::end(reply, words);
+    print::bytes(rt, b"remove")?;
+    print::field(rt, label as u64)?;
+    print::field(rt, replies::number(reply))?;
+    replies::end(rt, reply, words)
 }
 
-pub fn clear(words: &mut [u64], size: usize)
+pub fn clear(rt: &impl Print, words: &mut [u64], size: usize) -> io::Result<()>
     requires { size ≤ length words.old }
 {
     let reply = pool::empty::clear(&mut words[0..size]);
-    print::bytes(b"clear");
-    print::field(replies::number(reply));
-    replies::end(reply, words);
+    print::bytes(rt, b"clear")?;
+    print::field(rt, replies::number(reply))?;
+    replies::end(rt, reply, words)
 }
 
 // The label that a field gives; 0, if it is none.

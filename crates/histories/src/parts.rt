@@ -6,50 +6,58 @@ use super::replies;
 use pool::reply::Reply;
 use refusal::Refusal;
 use script::numbers;
+use std::io;
 
-pub fn open(fields: &[u8], words: &mut [u64], size: usize)
+pub fn open(rt: &impl Print, fields: &[u8], words: &mut [u64], size: usize) -> io::Result<()>
     requires { size ≤ length words.old }
 {
     let label = label_of(fields);
     let reply = intake::begin::open_text(&mut words[0..size], label);
-    print::bytes(b"open");
-    print::field(label as u64);
-    print::field(replies::number(reply));
-    replies::end(reply, words);
+    print::bytes(rt, b"open")?;
+    print::field(rt, label as u64)?;
+    print::field(rt, replies::number(reply))?;
+    replies::end(rt, reply, words)
 }
 
-pub fn feed(fields: &[u8], text: &[u8], words: &mut [u64], size: usize)
+pub fn feed(
+    rt: &impl Print,
+    fields: &[u8],
+    text: &[u8],
+    words: &mut [u64],
+    size: usize,
+) -> io::Result<()>
     requires { size ≤ length words.old }
 {
     let count = numbers::natural(fields) as usize;
     let reply = intake::parts::feed_text(&mut words[0..size], script::first(text, count));
-    print::bytes(b"feed");
-    print::field(count as u64);
-    print::field(replies::number(reply));
-    replies::end(reply, words);
+    print::bytes(rt, b"feed")?;
+    print::field(rt, count as u64)?;
+    print::field(rt, replies::number(reply))?;
+    replies::end(rt, reply, words)
 }
 
-pub fn close(words: &mut [u64], size: usize)
+pub fn close(rt: &impl Print, words: &mut [u64], size: usize) -> io::Result<()>
     requires { size ≤ length words.old }
 {
     let reply = closing::ending::close_text(&mut words[0..size]);
-    print::bytes(b"close");
-    print::field(replies::number(reply));
-    print::field(replies::line(reply));
-    print::field(replies::column(reply));
-    print::end_line();
+    print::bytes(rt, b"close")?;
+    print::field(rt, replies::number(reply))?;
+    print::field(rt, replies::line(reply))?;
+    print::field(rt, replies::column(reply))?;
+    print::end_line(rt)?;
     if ends(reply) {
-        replies::tell(words);
+        replies::tell(rt, words)?;
     }
+    Ok(())
 }
 
-pub fn drop(words: &mut [u64], size: usize)
+pub fn drop(rt: &impl Print, words: &mut [u64], size: usize) -> io::Result<()>
     requires { size ≤ length words.old }
 {
     let reply = intake::parts::drop_text(&mut words[0..size]);
-    print::bytes(b"drop");
-    print::field(replies::number(reply));
-    replies::end(reply, words);
+    print::bytes(rt, b"drop")?;
+    print::field(rt, replies::number(reply))?;
+    replies::end(rt, reply, words)
 }
 
 // Whether a closing has changed the pool: one that refuses the text has too, since the text is open no more.

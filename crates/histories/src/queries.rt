@@ -4,24 +4,27 @@ ghost use Rattle.std.specs.Prelude.{◌≤◌, length};
 use pool::reply::{Counts, Fetched};
 use refusal::Refusal;
 use script::numbers;
+use std::io;
 
 // The buffer's length stands before the name.
-pub fn fetch(fields: &[u8], words: &[u64], size: usize)
+pub fn fetch(rt: &impl Print, fields: &[u8], words: &[u64], size: usize) -> io::Result<()>
     requires { size ≤ length words.now }
 {
     let mut buffer = [0.0; 3072];
     let room = numbers::natural(script::before(fields, b' ')) as usize;
     if room <= 3072 {
         fetch_into(
+            rt,
             &words[0..size],
             script::after(fields, b' '),
             &mut buffer[0..room],
-        );
+        )?;
     }
+    Ok(())
 }
 
 // A string by its place. The buffer's length stands first, then the place, then the name.
-pub fn quoted(fields: &[u8], words: &[u64], size: usize)
+pub fn quoted(rt: &impl Print, fields: &[u8], words: &[u64], size: usize) -> io::Result<()>
     requires { size ≤ length words.now }
 {
     let mut buffer: [u8; 64] = [0; 64];
@@ -30,93 +33,105 @@ pub fn quoted(fields: &[u8], words: &[u64], size: usize)
     let place = numbers::natural(script::before(rest, b' ')) as usize;
     if room <= 64 {
         quoted_into(
+            rt,
             &words[0..size],
             script::after(rest, b' '),
             place,
             &mut buffer[0..room],
-        );
+        )?;
     }
+    Ok(())
 }
 
-pub fn totals(words: &[u64], size: usize)
+pub fn totals(rt: &impl Print, words: &[u64], size: usize) -> io::Result<()>
     requires { size ≤ length words.now }
 {
     let answer = pool::totals::totals(&words[0..size]);
-    print::bytes(b"totals");
+    print::bytes(rt, b"totals")?;
     match answer {
         Counts::Held(texts, statements, values) => {
-            counts(0, texts as u64, statements as u64, values as u64)
+            counts(rt, 0, texts as u64, statements as u64, values as u64)?;
         }
-        Counts::Refused(refusal) => counts(refusal::number(refusal) as u64, 0, 0, 0),
+        Counts::Refused(refusal) => counts(rt, refusal::number(refusal) as u64, 0, 0, 0)?,
     }
-    print::end_line();
+    print::end_line(rt)
 }
 
-fn fetch_into(words: &[u64], name: &[u8], buffer: &mut [f64]) {
+fn fetch_into(rt: &impl Print, words: &[u64], name: &[u8], buffer: &mut [f64]) -> io::Result<()> {
     let answer = pool::fetch::fetch(words, name, buffer);
-    print::bytes(b"fetch ");
-    print::bytes(name);
+    print::bytes(rt, b"fetch ")?;
+    print::bytes(rt, name)?;
     match answer {
-        Fetched::Count(count) => fetched(count, buffer),
-        Fetched::Refused(refusal) => refused(refusal),
+        Fetched::Count(count) => fetched(rt, count, buffer)?,
+        Fetched::Refused(refusal) => refused(rt, refusal)?,
     }
-    print::end_line();
+    print::end_line(rt)
 }
 
-fn quoted_into(words: &[u64], name: &[u8], place: usize, buffer: &mut [u8]) {
+fn quoted_into(
+    rt: &impl Print,
+    words: &[u64],
+    name: &[u8],
+    place: usize,
+    buffer: &mut [u8],
+) -> io::Result<()> {
     let answer = pool::fetch_string::fetch_string(words, name, place, buffer);
-    print::bytes(b"quoted ");
-    print::bytes(name);
-    print::field(place as u64);
+    print::bytes(rt, b"quoted ")?;
+    print::bytes(rt, name)?;
+    print::field(rt, place as u64)?;
     match answer {
-        Fetched::Count(count) => string(count, buffer),
-        Fetched::Refused(refusal) => refused(refusal),
+        Fetched::Count(count) => string(rt, count, buffer)?,
+        Fetched::Refused(refusal) => refused(rt, refusal)?,
     }
-    print::end_line();
+    print::end_line(rt)
 }
 
-fn fetched(count: usize, buffer: &[f64]) {
-    print::field(0);
-    print::field(count as u64);
+fn fetched(rt: &impl Print, count: usize, buffer: &[f64]) -> io::Result<()> {
+    print::field(rt, 0)?;
+    print::field(rt, count as u64)?;
     if count <= buffer.len() {
-        values(&buffer[0..count]);
+        values(rt, &buffer[0..count])?;
     }
+    Ok(())
 }
 
 // A string of no bytes has no field for them.
-fn string(count: usize, buffer: &[u8]) {
-    print::field(0);
-    print::field(count as u64);
+fn string(rt: &impl Print, count: usize, buffer: &[u8]) -> io::Result<()> {
+    print::field(rt, 0)?;
+    print::field(rt, count as u64)?;
     if count > 0 && count <= buffer.len() {
-        print::bytes(b" ");
-        hexadecimal(&buffer[0..count]);
+        print::bytes(rt, b" ")?;
+        hexadecimal(rt, &buffer[0..count])?;
     }
+    Ok(())
 }
 
-fn refused(refusal: Refusal) {
-    print::field(refusal::number(refusal) as u64);
-    print::field(0);
+fn refused(rt: &impl Print, refusal: Refusal) -> io::Result<()> {
+    print::field(rt, refusal::number(refusal) as u64)?;
+    print::field(rt, 0)
 }
 
-fn values(values: &[f64]) {
+fn values(rt: &impl Print, values: &[f64]) -> io::Result<()> {
     let mut i = 0;
     while i < values.len() {
-        print::double_field(values[i]);
+        print::double_field(rt, values[i])?;
         i += 1;
     }
+    Ok(())
 }
 
 // Bytes as two digits each.
-fn hexadecimal(bytes: &[u8]) {
+fn hexadecimal(rt: &impl Print, bytes: &[u8]) -> io::Result<()> {
     let mut i = 0;
     while i < bytes.len() {
-        byte(bytes[i]);
+        byte(rt, bytes[i])?;
         i += 1;
     }
+    Ok(())
 }
 
-fn byte(n: u8) {
-    print::bytes(&[digit(n / 16), digit(n % 16)]);
+fn byte(rt: &impl Print, n: u8) -> io::Result<()> {
+    print::bytes(rt, &[digit(n / 16), digit(n % 16)])
 }
 
 // The digit of a number below 16.
@@ -127,9 +142,15 @@ fn digit(n: u8) -> u8 {
     b'A' + (n - 10) % 6
 }
 
-fn counts(number: u64, texts: u64, statements: u64, values: u64) {
-    print::field(number);
-    print::field(texts);
-    print::field(statements);
-    print::field(values);
+fn counts(
+    rt: &impl Print,
+    number: u64,
+    texts: u64,
+    statements: u64,
+    values: u64,
+) -> io::Result<()> {
+    print::field(rt, number)?;
+    print::field(rt, texts)?;
+    print::field(rt, statements)?;
+    print::field(rt, values)
 }

@@ -1,6 +1,7 @@
 // What a reply is told by: its fields, the end of its line, and the line of a memory that has changed.
 use super::memory;
 use pool::reply::Reply;
+use std::io;
 
 // An answer's number, 0 for success.
 pub fn number(reply: Reply) -> u64 {
@@ -27,16 +28,17 @@ pub fn column(reply: Reply) -> u64 {
 }
 
 // The end of an answer; a call that is refused has changed nothing.
-pub fn end(reply: Reply, words: &[u64]) {
-    print::end_line();
+pub fn end(rt: &impl Print, reply: Reply, words: &[u64]) -> io::Result<()> {
+    print::end_line(rt)?;
     if let Reply::Done = reply {
-        tell(words);
+        tell(rt, words)?;
     }
+    Ok(())
 }
 
 // The line of a memory that has changed.
-pub fn tell(words: &[u64]) {
-    print::bytes(b"memory ");
-    print::word(memory::checksum(words));
-    print::end_line();
+pub fn tell(rt: &impl Print, words: &[u64]) -> io::Result<()> {
+    print::bytes(rt, b"memory ")?;
+    print::word(rt, memory::checksum(words))?;
+    print::end_line(rt)
 }

@@ -1,6 +1,8 @@
 // "The listing program reads one text from standard input, up to the text limit": what came of it, a text or a read that failed.
 ghost use Rattle.listing.specs.Input.{Within};
 
+use std::io::Read;
+
 // So many bytes from the room's start on; or a read failed, so that what came is no whole text.
 #[derive(Clone, Copy)]
 pub enum Input {
@@ -9,12 +11,12 @@ pub enum Input {
 }
 
 // Reads until the input ends or the room is full.
-pub fn read(fd: i32, room: &mut [u8]) -> Input
+pub fn read<R: Read>(input: &mut R, room: &mut [u8]) -> Input
     ensures { Within result room.new }
 {
     let mut at = 0;
     while at < room.len() {
-        let Input::Bytes(more) = read_more(fd, &mut room[at..]) else {
+        let Input::Bytes(more) = read_more(input, &mut room[at..]) else {
             return Input::Unreadable;
         };
         if more == 0 {
@@ -26,12 +28,11 @@ pub fn read(fd: i32, room: &mut [u8]) -> Input
 }
 
 // One read; it brings no bytes at the end of the input.
-fn read_more(fd: i32, room: &mut [u8]) -> Input
+fn read_more<R: Read>(input: &mut R, room: &mut [u8]) -> Input
     ensures { Within result room.new }
 {
-    let got = libc::read(fd, room);
-    if got < 0 {
-        return Input::Unreadable;
+    match input.read(room) {
+        Ok(count) => Input::Bytes(count),
+        Err(_) => Input::Unreadable,
     }
-    Input::Bytes(io::count(got, room))
 }

@@ -1,4 +1,6 @@
 // The listing of the text on standard input, on standard output: document 01, "The listing".
+#![tactic(auto)]
+
 mod answer;
 mod input;
 mod list;
@@ -8,14 +10,14 @@ ghost use Rattle.listing.specs.Lists.{SIZE};
 
 use answer::answer;
 use input::read;
-use libc::STDIN_FILENO;
+use std::io;
 
-fn main() {
+fn main(rt: HostRuntime) -> io::Result<()> {
     let mut room = text_room();
-    let input = read(STDIN_FILENO, &mut room);
+    let input = read(&mut rt.stdin(), &mut room);
     let mut out = listing_room();
     let end = answer(&room, input, &mut out);
-    print::bytes(&out[..end]);
+    print::bytes(&rt, &out[..end])
 }
 
 // Room for one byte more than the longest text has, so that a longer input is refused and never cut.

@@ -1,6 +1,10 @@
 // The built-in source at chosen bodies and epochs: for every body and epoch its orientation, then every body's radii.
 // `stdout` is what an implementation of its own, rust/twin, prints at the same bodies and epochs.
+#![tactic(auto)]
+
 mod answers;
+
+use std::io;
 
 const CODES: [u32; 21] = [
     10, 199, 299, 399, 499, 599, 699, 799, 899, 999, 0, 1, 9, 11, 99, 100, 101, 301, 998, 1000,
@@ -39,42 +43,45 @@ const EPOCHS: [f64; 29] = [
     1.7976931348623157e308,
 ];
 
-fn main() {
-    orientations(&CODES, &EPOCHS);
-    radii(&CODES);
+fn main(rt: HostRuntime) -> io::Result<()> {
+    orientations(&rt, &CODES, &EPOCHS)?;
+    radii(&rt, &CODES)
 }
 
 // A line for every code and epoch.
-fn orientations(codes: &[u32], epochs: &[f64]) {
+fn orientations(rt: &impl Print, codes: &[u32], epochs: &[f64]) -> io::Result<()> {
     let mut i = 0;
     while i < codes.len() {
-        body(codes[i], epochs);
+        body(rt, codes[i], epochs)?;
         i += 1;
     }
+    Ok(())
 }
 
 // A line for every epoch, for NaN and for both infinities, which are no constants.
-fn body(code: u32, epochs: &[f64]) {
-    finite(code, epochs);
-    answers::orientation(code, 0.0 / 0.0);
-    answers::orientation(code, 1.0 / 0.0);
-    answers::orientation(code, -1.0 / 0.0);
+fn body(rt: &impl Print, code: u32, epochs: &[f64]) -> io::Result<()> {
+    finite(rt, code, epochs)?;
+    answers::orientation(rt, code, 0.0 / 0.0)?;
+    answers::orientation(rt, code, 1.0 / 0.0)?;
+    answers::orientation(rt, code, -1.0 / 0.0)
 }
 
 // A line for every epoch.
-fn finite(code: u32, epochs: &[f64]) {
+fn finite(rt: &impl Print, code: u32, epochs: &[f64]) -> io::Result<()> {
     let mut i = 0;
     while i < epochs.len() {
-        answers::orientation(code, epochs[i]);
+        answers::orientation(rt, code, epochs[i])?;
         i += 1;
     }
+    Ok(())
 }
 
 // A line for every code.
-fn radii(codes: &[u32]) {
+fn radii(rt: &impl Print, codes: &[u32]) -> io::Result<()> {
     let mut i = 0;
     while i < codes.len() {
-        answers::radii(codes[i]);
+        answers::radii(rt, codes[i])?;
         i += 1;
     }
+    Ok(())
 }

@@ -1,49 +1,51 @@
-// What the programs print, on standard output: bytes, numbers and doubles.
-use libc::STDOUT_FILENO;
+// What the programs print, on standard output: bytes, numbers and doubles. An error is that of a write.
+#![tactic(auto)]
+
 use pen::digits;
+use std::io;
 
 // The bytes as they stand.
-pub fn bytes(text: &[u8]) {
-    io::write_all(STDOUT_FILENO, text);
+pub fn bytes(rt: &impl Print, text: &[u8]) -> io::Result<()> {
+    rt.write_all(text)
 }
 
 // A number in decimal.
-pub fn decimal(n: u64) {
-    io::print_decimal(STDOUT_FILENO, n);
+pub fn decimal(rt: &impl Print, n: u64) -> io::Result<()> {
+    rt.print(n)
 }
 
 // A word in 16 hexadecimal digits.
-pub fn word(w: u64) {
+pub fn word(rt: &impl Print, w: u64) -> io::Result<()> {
     let mut text = [0u8; 16];
     digits::spell(w, &mut text);
-    bytes(&text);
+    bytes(rt, &text)
 }
 
 // A double's bits; of a NaN no bits are told.
-pub fn double(x: f64) {
+pub fn double(rt: &impl Print, x: f64) -> io::Result<()> {
     if x == x {
-        word(f64::to_bits(x));
+        word(rt, f64::to_bits(x))
     } else {
-        bytes(b"NAN");
+        bytes(rt, b"NAN")
     }
 }
 
 // One more field of a line: a number.
-pub fn field(n: u64) {
-    space();
-    decimal(n);
+pub fn field(rt: &impl Print, n: u64) -> io::Result<()> {
+    space(rt)?;
+    decimal(rt, n)
 }
 
 // One more field of a line: a double.
-pub fn double_field(x: f64) {
-    space();
-    double(x);
+pub fn double_field(rt: &impl Print, x: f64) -> io::Result<()> {
+    space(rt)?;
+    double(rt, x)
 }
 
-pub fn space() {
-    bytes(b" ");
+pub fn space(rt: &impl Print) -> io::Result<()> {
+    bytes(rt, b" ")
 }
 
-pub fn end_line() {
-    bytes(b"\n");
+pub fn end_line(rt: &impl Print) -> io::Result<()> {
+    bytes(rt, b"\n")
 }

@@ -3,6 +3,7 @@
 use reads::{Asked, name_read};
 use script::numbers;
 use script::numbers::Number;
+use std::io;
 
 // The largest number of 32 bits.
 const LARGEST: u64 = 4294967295;
@@ -11,48 +12,49 @@ const LARGEST: u64 = 4294967295;
 const PLACES: usize = 16;
 
 // The answer to one line of the input.
-pub fn answer(line: &[u8]) {
+pub fn answer(rt: &impl Print, line: &[u8]) -> io::Result<()> {
     let number = numbers::decimal(line);
     let Number::Of(n) = number else {
-        return;
+        return Ok(());
     };
     if n <= LARGEST {
-        code(n as u32);
+        code(rt, n as u32)?;
     }
+    Ok(())
 }
 
-fn code(code: u32) {
-    let count = names(Asked::Orientation, code);
+fn code(rt: &impl Print, code: u32) -> io::Result<()> {
+    let count = names(rt, Asked::Orientation, code)?;
     if count == 0 {
-        print::decimal(code as u64);
-        print::bytes(b" none");
-        print::end_line();
-        return;
+        print::decimal(rt, code as u64)?;
+        print::bytes(rt, b" none")?;
+        return print::end_line(rt);
     }
-    names(Asked::Radii, code);
+    names(rt, Asked::Radii, code)?;
+    Ok(())
 }
 
 // A line for each name of a list, up to the first place that has none; how many there are.
-fn names(asked: Asked, code: u32) -> usize {
+fn names(rt: &impl Print, asked: Asked, code: u32) -> io::Result<usize> {
     let mut name = [0u8; 32];
     let mut place = 0;
     while place < PLACES {
         let length = name_read(asked, code, place, &mut name);
         if length == 0 {
-            return place;
+            return Ok(place);
         }
-        print::decimal(code as u64);
-        title(asked);
-        print::bytes(script::first(&name, length));
-        print::end_line();
+        print::decimal(rt, code as u64)?;
+        title(rt, asked)?;
+        print::bytes(rt, script::first(&name, length))?;
+        print::end_line(rt)?;
         place += 1;
     }
-    place
+    Ok(place)
 }
 
-fn title(asked: Asked) {
+fn title(rt: &impl Print, asked: Asked) -> io::Result<()> {
     match asked {
-        Asked::Orientation => print::bytes(b" orientation "),
-        Asked::Radii => print::bytes(b" radii "),
+        Asked::Orientation => print::bytes(rt, b" orientation "),
+        Asked::Radii => print::bytes(rt, b" radii "),
     }
 }
