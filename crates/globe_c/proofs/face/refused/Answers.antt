@@ -3,15 +3,8 @@ use lib.Ieee.{of_bits, round}
 use Rattle.plain.specs.Doubles.{printed, nought}
 use Rattle.globe_c.specs.Faces.{oriented_face}
 use borrow.Author.Rules.{rules}
-use Rattle.globe_c.proofs.face.refused.Statement.{statement}
-use Rattle.globe_c.proofs.face.refused.Tie as tie
+use Rattle.globe_c.proofs.face.refused.Goals as goal
 
-number-requires : tie.Need-number-requires
-number-requires c κs = search rules
-
-returns : tie.Need-returns
+pub returns : goal.returns
 unfolding oriented_face printed round of_bits
 returns c = λ i. record { number = c.number.ensures i; line = 0; column = 0; ra = nought; dec = nought; w = nought; m11 = nought; m12 = nought; m13 = nought; m21 = nought; m22 = nought; m23 = nought; m31 = nought; m32 = nought; m33 = nought }
-
-pub refused-spec : {M : Type 1} → statement M
-refused-spec = tie.close (tie.spec number-requires returns)

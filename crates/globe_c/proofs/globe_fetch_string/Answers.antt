@@ -1,0 +1,8 @@
+-- `globe_fetch_string` meets its contract: the answer of the call and the buffer that it leaves. Assumes nothing.
+use mathlib.Core.Path.{ap, ◌∙◌}
+use Rattle.globe_c.specs.Faces.{fetched_face}
+use borrow.Author.Rules.{rules}
+use Rattle.globe_c.proofs.globe_fetch_string.Goals as goal
+
+pub returns : goal.returns
+returns c = let call = c.fetch_string.ensures in record { shown = c.fetched_face.ensures ∙ ap fetched_face call.reply; left = call.buffer }

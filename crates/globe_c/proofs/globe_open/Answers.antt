@@ -1,0 +1,8 @@
+-- `globe_open` meets its contract: the reply of the call and the memory that it leaves. Assumes nothing.
+use mathlib.Core.Path.{ap, ◌∙◌}
+use Rattle.globe_c.specs.Faces.{reply_face}
+use borrow.Author.Rules.{rules}
+use Rattle.globe_c.proofs.globe_open.Goals as goal
+
+pub returns : goal.returns
+returns c = let call = c.open_text.ensures in record { shown = c.reply_face.ensures ∙ ap reply_face call.reply; left = call.memory }
