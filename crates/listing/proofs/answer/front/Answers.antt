@@ -1,0 +1,11 @@
+-- `front` meets its contract: a room of no more bytes is its own beginning. Assumes nothing.
+use mathlib.Core.Path.{sym}
+use native.Mathlib.Omega.{arith}
+use lib.Seq.{take_all, length-take-le}
+use Rattle.listing.proofs.answer.front.Goals as goal
+
+pub slice_bounds-result-end : goal.slice_bounds-result-end
+slice_bounds-result-end c = sym (length-take-le _ _ (omega arith))
+
+pub returns : goal.returns
+returns c = sym (take_all c.args.count c.args.room.now (omega arith))

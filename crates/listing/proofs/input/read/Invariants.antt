@@ -1,0 +1,9 @@
+-- `read` ends: the place stays in the room, and a turn that brings bytes leaves less of it. Assumes nothing.
+use Rattle.std.proofs.Common.{◌≡◌, ◌-◌, ◌≤◌, length}
+use Rattle.listing.proofs.input.read.Given as goal
+
+abbrev pub invariant-loop-at : goal.invariant-loop-at
+invariant-loop-at g l = (l.at ≤ length l.room) × (length l.room ≡ length l.initial.room)
+
+abbrev pub decreases-loop-at : goal.decreases-loop-at
+decreases-loop-at g l = length l.room - l.at
