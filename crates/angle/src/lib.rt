@@ -1,4 +1,6 @@
 // Angles in degrees: document 01, "Evaluation".
+#![tactic(auto)]
+
 pub mod series;
 pub mod sine;
 pub mod wrap;

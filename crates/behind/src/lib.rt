@@ -1,1 +1,2 @@
 // An open text behind what a pool holds: laws alone.
+#![tactic(auto)]

@@ -1,4 +1,6 @@
 // The public face: the calls of documents 01 and 02, each with its whole contract: a record of what it answers and of the memory that it leaves.
+#![tactic(auto)]
+
 ghost use Rattle.pool.specs.Empty.{Empties, Clears};
 ghost use Rattle.pool.specs.Fetch.{Fetches};
 ghost use Rattle.pool.specs.FetchString.{FetchesString};

@@ -1,4 +1,6 @@
 // A value's bytes read to a double: document 01, "Text rules", the two points on a value.
+#![tactic(auto)]
+
 mod class;
 mod digits;
 mod exponent;

@@ -1,4 +1,6 @@
 // The C face: the calls of include/globe.h, each a call of `globe` or `drive` with its answer as a C structure.
+#![tactic(auto)]
+
 mod face;
 mod motor;
 

@@ -3,14 +3,12 @@
 use mathlib.Core.Path.{◌≡◌, refl, sym, ap, subst, ◌∙◌}
 use mathlib.Core.Bool.{true, ◌&&◌}
 use mathlib.Core.List.{List, [], ◌∷◌, ◌++◌, map, append_assoc, append-nil}
-use Prim.Native.Nat.{ℕ, ◌+◌, ◌≤◌, ◌<◌}
+use Prim.Native.Nat.{ℕ, ◌≤◌, ◌<◌}
 use native.Mathlib.Omega.{arith}
 use borrow.Author.Tests.{leb-true, le-leb}
 use lib.Dec.{leb}
 use lib.ListN.{length}
-use Rattle.plain.specs.Bytes.{fair}
-use Rattle.value.specs.Strings.{STRING}
-use Rattle.statement.specs.Statements.{Values, numbers, strings, how_many, Statement}
+use Rattle.statement.specs.Statements.{Statement}
 use Rattle.words.specs.Halves.{HALF}
 use Rattle.plain.proofs.Tests.{both}
 use Rattle.plain.proofs.Each.{Each, each_append, each_map}
@@ -18,7 +16,6 @@ use Rattle.words.proofs.Each.{Words}
 use Rattle.words.proofs.Halves.{Different, different-append}
 use Rattle.layout.specs.State.{Text, Pool, program, flat, words_of, values_of, bytes_of, values, string_bytes}
 use Rattle.layout.specs.Limits.{TEXTS, STATEMENTS, VALUES, BYTES, room}
-use Rattle.names.specs.Names.{legal}
 pub use Rattle.layout.specs.Fair.{FairString, FairValues, Fair}
 use Rattle.layout.proofs.Columns.{flat_append}
 

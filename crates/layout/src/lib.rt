@@ -1,4 +1,6 @@
 // A pool's memory: its areas, and whether it is damaged.
+#![tactic(auto)]
+
 pub mod area;
 pub mod check;
 pub mod front;

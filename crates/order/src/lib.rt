@@ -1,4 +1,6 @@
 // "the variables in byte order of names": the places of a pool's names, in the order of the names, each name once.
+#![tactic(auto)]
+
 pub mod in_words;
 
 ghost use Rattle.std.specs.Prelude.{◌≡◌, ◌≤◌, ◌<◌, length};

@@ -1,4 +1,6 @@
 // The calls on a pool: document 01, "What the library holds".
+#![tactic(auto)]
+
 pub mod empty;
 pub mod fetch;
 pub mod fetch_string;

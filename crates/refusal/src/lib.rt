@@ -1,4 +1,6 @@
 // The refusals of document 01, "Refusal numbers", and those that document 02 adds.
+#![tactic(auto)]
+
 ghost use Rattle.std.specs.Prelude.{◌≡◌};
 ghost use Rattle.refusal.specs.Numbers.{number_of};
 

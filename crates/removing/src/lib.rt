@@ -1,2 +1,4 @@
 // A removal's pass: a text's gap in every area, closed.
+#![tactic(auto)]
+
 pub mod gap;

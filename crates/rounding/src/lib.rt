@@ -1,4 +1,6 @@
 // w·10^k as the nearest double, ties to the even significand: document 02, K4.
+#![tactic(auto)]
+
 mod pack;
 mod power;
 mod wide;

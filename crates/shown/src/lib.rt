@@ -1,5 +1,7 @@
 // "the variables in byte order of names, each with its count, then how many values these variables have together and the bits of
 // each, in the same order": of an undamaged pool.
+#![tactic(auto)]
+
 mod values;
 
 ghost use Rattle.std.specs.Prelude.{◌≡◌, length};

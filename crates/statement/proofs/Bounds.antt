@@ -12,7 +12,6 @@ use Rattle.plain.specs.Runs.{past}
 use Rattle.value.specs.Classes.{blank, stands}
 use Rattle.value.specs.Strings.{undoubled}
 use Rattle.value.specs.Value.{Value, number, string, value_at}
-use Rattle.value.specs.declared.faults.Fault.{Fault}
 use Rattle.value.specs.declared.faults.Fault.TheVariants as F
 use Rattle.value.specs.declared.Word.{Word}
 use Rattle.value.specs.declared.Word.TheVariants as W

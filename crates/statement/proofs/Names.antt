@@ -11,7 +11,6 @@ use Rattle.plain.specs.Choice.{if◌then◌else◌}
 use Rattle.plain.specs.Runs.{past}
 use Rattle.plain.proofs.Places.{take_past}
 use Rattle.value.specs.Classes.{blank, name_byte, stands}
-use Rattle.value.specs.declared.faults.Fault.{Fault}
 use Rattle.value.specs.declared.faults.Fault.TheVariants as F
 use Rattle.statement.specs.Head.{NAME, head_operated, head_named, head}
 use Rattle.statement.specs.declared.head.Head.{Head}

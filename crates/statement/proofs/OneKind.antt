@@ -16,7 +16,6 @@ use Rattle.decimal.specs.declared.Reading.TheVariants as D
 use Rattle.value.specs.Classes.{blank, separator, value_byte, stands}
 use Rattle.value.specs.Strings.{STRING, undoubled}
 use Rattle.value.specs.Value.{Value, number, string, value_at}
-use Rattle.value.specs.declared.faults.Fault.{Fault}
 use Rattle.value.specs.declared.faults.Fault.TheVariants as F
 use Rattle.value.specs.declared.Word.{Word}
 use Rattle.value.specs.declared.Word.TheVariants as W

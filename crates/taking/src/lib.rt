@@ -1,4 +1,6 @@
 // Parts of a text taken in, one after the other: document 02, K5, "fed with parts of any length, also of none".
+#![tactic(auto)]
+
 pub mod counts;
 pub mod line;
 pub mod part;

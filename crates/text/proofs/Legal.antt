@@ -10,7 +10,6 @@ use Rattle.plain.proofs.Each.{Each, each_append}
 use Rattle.decimal.specs.Class.{reading}
 use Rattle.decimal.specs.declared.Reading.TheVariants as D
 use Rattle.value.specs.Value.{Value}
-use Rattle.value.specs.declared.faults.Fault.{Fault}
 use Rattle.statement.specs.Statements.{Event, opened, value, Statement, how_many, how_long, Gathered, gathered, statements, givings, bytes_given}
 use Rattle.statement.specs.Head.{head}
 use Rattle.statement.specs.Values.{bytes_in_all, Given, given, wrong, listed, given_at}

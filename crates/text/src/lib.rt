@@ -1,4 +1,6 @@
 // A text read line by line, up to its first faulty line: document 01, "Text rules".
+#![tactic(auto)]
+
 pub mod delimiters;
 pub mod lengths;
 pub mod line;

@@ -1,5 +1,7 @@
 // One value at a place of a line: document 01, "A value is a maximal run without blank, comma or bracket"; document 02, K2, "strings in
 // single quotes".
+#![tactic(auto)]
+
 pub mod classes;
 pub mod faults;
 pub mod strings;

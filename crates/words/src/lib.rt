@@ -1,4 +1,6 @@
 // Lists of memory words: nothing here knows what the words mean.
+#![tactic(auto)]
+
 pub mod bytes;
 pub mod compare;
 pub mod read;

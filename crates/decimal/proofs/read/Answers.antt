@@ -5,7 +5,6 @@ use mathlib.Core.Bool.{Bool}
 use mathlib.Core.List.{List}
 use lib.IntN.{pos, ◌-ℤ◌}
 use lib.ListN.{drop}
-use borrow.Author.Rules.{rules}
 use Rattle.plain.specs.Choice.{if◌then◌else◌}
 use Rattle.plain.specs.Bytes.{digit}
 use Rattle.plain.specs.Runs.{run, skip}

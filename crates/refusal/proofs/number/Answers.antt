@@ -1,5 +1,4 @@
 -- `number` meets its contract: in each arm the refusal is one that the table has, and its line is the answer. Assumes nothing.
-use borrow.Author.Rules.{rules}
 use mathlib.Core.Path.{sym, ap}
 use Rattle.refusal.specs.Numbers.{number_of}
 use Rattle.refusal.proofs.number.Goals as goal

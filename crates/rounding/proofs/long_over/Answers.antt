@@ -1,7 +1,6 @@
 -- `long_over` meets its contract: the leading digits of the quotient and whether anything is left, put in their place, round as the number does. Assumes nothing.
 use mathlib.Core.Path.{◌∙◌}
 use native.Mathlib.Omega.{arith}
-use borrow.Author.Rules.{rules}
 use Rattle.rounding.proofs.Leading.{fives-fit, least-over, rounds-over}
 use Rattle.rounding.proofs.long_over.Goals as goal
 

@@ -1,7 +1,6 @@
 -- `long_times` meets its contract: the leading digits of the product and whether anything is left, put in their place, round as the number does. Assumes nothing.
 use mathlib.Core.Path.{◌∙◌}
 use native.Mathlib.Omega.{arith}
-use borrow.Author.Rules.{rules}
 use Rattle.rounding.proofs.Leading.{fives-fit, least-times, rounds-times}
 use Rattle.rounding.proofs.long_times.Goals as goal
 

@@ -1,6 +1,5 @@
 -- `over` meets its contract: up to 2^53 one operation rounds once. Assumes nothing.
 use mathlib.Core.Path.{ap, ◌∙◌}
-use borrow.Author.Rules.{rules}
 use lib.Dec.{le→leb}
 use lib.Ieee.{Float, in_float}
 use Rattle.plain.specs.Doubles.{◌⊘◌}

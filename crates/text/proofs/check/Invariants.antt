@@ -1,10 +1,7 @@
 -- `check` meets its contract: the counts of the lines passed and what is left to read make the whole text's answer. Assumes nothing.
 use Prim.Native.Nat.{◌+◌, ◌-◌}
-use native.Mathlib.Omega.{arith}
-use mathlib.Core.Path.{◌∙◌}
-use borrow.Author.Rules.{rules}
 use lib.ListN.{length}
-use Rattle.text.proofs.Tallies.{SoFar, at_first, turn, turn-off, end-admits, end-refuses}
+use Rattle.text.proofs.Tallies.{SoFar}
 use Rattle.text.proofs.check.Given as goal
 
 abbrev pub invariant-loop-at : goal.invariant-loop-at

@@ -3,7 +3,6 @@ use native.Mathlib.Omega.{arith}
 use Prim.Native.Nat.{◌-◌, ◌^◌}
 use mathlib.Core.Path.{◌≡◌, sym, ap}
 use lib.ListN.{length, drop}
-use borrow.Author.Rules.{rules}
 use Rattle.plain.specs.Runs.{run, past}
 use Rattle.plain.proofs.Places.{past-most}
 use Rattle.value.specs.Classes.{value_byte}

@@ -1,7 +1,6 @@
 -- `read_value` meets its contract: either way out is one case of `value_at`. Assumes nothing.
 use native.Mathlib.Omega.{arith}
 use mathlib.Core.Path.{sym}
-use borrow.Author.Rules.{rules}
 use Rattle.plain.specs.Bytes.{QUOTE}
 use Rattle.value.specs.Value.{value_at}
 use Rattle.value.proofs.Standing.{stands-within}

@@ -3,7 +3,6 @@ use mathlib.Core.Path.{◌≡◌, subst}
 use Prim.Native.Nat.{ℕ, ◌≤◌}
 use lib.Ieee.{of_bits, round}
 use lib.ListN.{length}
-use borrow.Author.Rules.{rules}
 use Rattle.plain.specs.Doubles.{printed}
 use Rattle.angle.specs.Series.{divisors_of}
 use Rattle.angle.specs.declared.series.Series.{Series}

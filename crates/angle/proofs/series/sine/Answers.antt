@@ -1,6 +1,5 @@
 -- `sine` meets its contract: at first all divisors remain. Assumes nothing.
 use lib.Ieee.{of_bits, round}
-use borrow.Author.Rules.{rules}
 use Rattle.plain.specs.Doubles.{printed}
 use Rattle.angle.proofs.series.sine.Goals as goal
 

@@ -1,6 +1,5 @@
 -- `core` meets its contract: the two series are put in. Assumes nothing.
 use lib.Ieee.{of_bits, round}
-use borrow.Author.Rules.{rules}
 use Rattle.plain.specs.Doubles.{printed}
 use Rattle.angle.specs.Sine.{core}
 use Rattle.angle.proofs.sine.core.Goals as goal

@@ -1,7 +1,6 @@
 -- `sine_cosine` meets its contract: each way out is the arm that `of_wrapped` picks by the same tests. Assumes nothing.
 use mathlib.Core.Path.{ap}
 use lib.Ieee.{of_bits, round}
-use borrow.Author.Rules.{rules}
 use Rattle.plain.specs.Doubles.{printed}
 use Rattle.angle.specs.Sine.{sine_cosine, of_wrapped, quarter, half, three_quarters}
 use Rattle.angle.proofs.sine.sine_cosine.Goals as goal

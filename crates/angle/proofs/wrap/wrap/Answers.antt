@@ -1,6 +1,5 @@
 -- `wrap` meets its contract: each way out is one clause of `lifted`, and `keep` does the rest. Assumes nothing.
 use lib.Ieee.{of_bits, round}
-use borrow.Author.Rules.{rules}
 use Rattle.plain.specs.Doubles.{printed}
 use Rattle.angle.specs.Wrap.{wrapped}
 use Rattle.angle.proofs.wrap.wrap.Goals as goal

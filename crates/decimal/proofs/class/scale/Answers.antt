@@ -2,7 +2,6 @@
 use mathlib.Core.Path.{sym}
 use native.Mathlib.Omega.{arith}
 use lib.IntN.{pos, ◌-ℤ◌}
-use borrow.Author.Rules.{rules}
 use Rattle.decimal.proofs.Valued.{valued-large, valued-steep, valued-over, valued-times}
 use Rattle.decimal.proofs.class.scale.Goals as goal
 

@@ -1,13 +1,7 @@
 -- `read_digits` meets its contract: what is left to write, after the number so far, is what was to be written. Assumes nothing.
 use Prim.Native.Nat.{◌-◌}
-use mathlib.Core.Path.{refl}
-use mathlib.Core.Logic.{inl}
 use lib.ListN.{length}
-use borrow.Author.Rules.{rules}
-use Rattle.plain.specs.Bytes.{ZERO, NINE, digit}
-use Rattle.plain.proofs.Ranges.{within-inside, within-below, within-above}
-use Rattle.plain.proofs.Runs.{run-off, run_end}
-use Rattle.decimal.proofs.Left.{Left, left-more, left-none}
+use Rattle.decimal.proofs.Left.{Left}
 use Rattle.decimal.proofs.digits.read_digits.Given as goal
 
 abbrev pub invariant-loop-end : goal.invariant-loop-end

@@ -1,7 +1,6 @@
 -- `read_exponent` meets its contract: the places that it passes are where the definition takes the exponent's parts off the front.
 -- Assumes nothing.
 use native.Mathlib.Omega.{arith}
-use borrow.Author.Rules.{rules}
 use Rattle.decimal.proofs.Scaled.{scaled-end, scaled-up, scaled-down}
 use Rattle.decimal.proofs.exponent.read_exponent.Goals as goal
 

@@ -1,7 +1,6 @@
 -- `read_sign` meets its contract: each way out is one clause of `minus` and `unsigned`. Assumes nothing.
 use mathlib.Core.Path.{refl}
 use lib.ListN.{drop_of_length-le}
-use borrow.Author.Rules.{rules}
 use borrow.Author.Tests.{ne_eqb}
 use Rattle.plain.specs.Bytes.{PLUS, MINUS}
 use Rattle.plain.proofs.Runs.{drop-byte}

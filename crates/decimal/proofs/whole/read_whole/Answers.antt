@@ -1,10 +1,9 @@
 -- `read_whole` meets its contract: the places that it passes are where the definition takes the digits and the point off the front.
 -- Assumes nothing.
-use mathlib.Core.Logic.{⊎_elim, inl, inr}
+use mathlib.Core.Logic.{inl, inr}
 use native.Mathlib.Omega.{arith}
-use borrow.Author.Rules.{rules}
 use Rattle.decimal.proofs.Places.{digits-count, digits-within}
-use Rattle.decimal.proofs.Pointed.{NoPoint, pointed-none, pointed-some}
+use Rattle.decimal.proofs.Pointed.{pointed-none, pointed-some}
 use Rattle.decimal.proofs.whole.read_whole.Goals as goal
 use Rattle.decimal.proofs.whole.read_whole.Goals.{then-point-value+else-value-point-eq46, else-point-value}
 

@@ -1,13 +1,8 @@
 -- `all_filled` meets its contract: the statements left have values exactly when all have, since each one passed has. Assumes nothing.
-use Prim.Native.Nat.{ℕ, ◌≤◌, ◌-◌}
-use mathlib.Core.Bool.{Bool}
-use mathlib.Core.Path.{◌≡◌, refl, ◌∙◌}
+use mathlib.Core.Path.{refl, ◌∙◌}
 use native.Mathlib.Omega.{arith}
 use borrow.Author.Rules.{rules}
 use borrow.Author.Tests.{lt-leb, le-leb}
-use lib.Dec.{leb}
-use lib.ListN.{length, drop}
-use Rattle.words.specs.Halves.{all, lower}
 use Rattle.words.proofs.Steps.{all-next, all-stop, all_end}
 use Rattle.layout.proofs.check.all_filled.Invariants.{filled}
 use Rattle.layout.proofs.check.all_filled.Goals as goal

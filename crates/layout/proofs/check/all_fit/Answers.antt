@@ -1,13 +1,8 @@
 -- `all_fit` meets its contract: the statements left fit exactly when all do, since each one passed does; the heads left count values
 -- that are left. Assumes nothing.
-use mathlib.Core.Path.{◌≡◌, refl, sym, ◌∙◌}
-use Prim.Native.Nat.{◌+◌, ◌-◌, ◌≤◌}
+use mathlib.Core.Path.{refl, sym, ◌∙◌}
 use native.Mathlib.Omega.{arith}
-use borrow.Author.Rules.{rules}
-use borrow.Author.Tests.{not-true, not-false}
-use lib.ListN.{length, drop}
-use Rattle.words.specs.Halves.{sum}
-use Rattle.layout.specs.Damage.{all_fit}
+use lib.ListN.{drop}
 use Rattle.layout.proofs.Passing.{sum_left, fit_next, fit-stop, fit-end}
 use Rattle.layout.proofs.check.all_fit.Goals as goal
 

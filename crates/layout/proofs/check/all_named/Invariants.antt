@@ -1,15 +1,8 @@
 -- `all_named` meets its contract: the names left are legal exactly when all are, since each one passed is. Assumes nothing.
-use mathlib.Core.Path.{◌≡◌, refl, sym, ap, ◌∙◌}
-use mathlib.Core.Bool.{Bool, true, false}
-use mathlib.Core.List.{List}
-use Prim.Native.Nat.{ℕ, ◌+◌, ◌*◌, ◌-◌, ◌≤◌, ◌<◌}
-use native.Mathlib.Omega.{arith}
-use borrow.Author.Rules.{rules}
-use borrow.Author.Tests.{not-true, not-false}
-use lib.ListN.{length, take, drop}
-use lib.Seq.{drop-drop}
-use Rattle.words.proofs.Steps.{drop-next, drop-end}
-use Rattle.names.specs.Names.{NAMEWORDS, holds_name}
+use mathlib.Core.Path.{◌≡◌}
+use Prim.Native.Nat.{◌*◌, ◌-◌, ◌≤◌}
+use lib.ListN.{length, drop}
+use Rattle.names.specs.Names.{NAMEWORDS}
 use Rattle.layout.specs.Damage.{all_named}
 use Rattle.layout.proofs.check.all_named.Given as goal
 

@@ -1,13 +1,8 @@
 -- `all_operated` meets its contract: the operators left are legal exactly when all are, since each one passed is. Assumes nothing.
-use Prim.Native.Nat.{ℕ, ◌≤◌, ◌-◌}
-use mathlib.Core.Bool.{Bool}
-use mathlib.Core.Path.{◌≡◌, refl, ◌∙◌}
+use mathlib.Core.Path.{refl, ◌∙◌}
 use native.Mathlib.Omega.{arith}
 use borrow.Author.Rules.{rules}
 use borrow.Author.Tests.{lt-leb, le-leb}
-use lib.Dec.{leb}
-use lib.ListN.{length, drop}
-use Rattle.words.specs.Halves.{all, upper}
 use Rattle.words.proofs.Steps.{all-next, all-stop, all_end}
 use Rattle.layout.proofs.check.all_operated.Invariants.{legal_operator}
 use Rattle.layout.proofs.check.all_operated.Goals as goal

@@ -1,14 +1,10 @@
 -- `all_operated` meets its contract: the operators left are legal exactly when all are, since each one passed is. Assumes nothing.
 use Prim.Native.Nat.{ℕ, ◌≤◌, ◌-◌}
 use mathlib.Core.Bool.{Bool}
-use mathlib.Core.Path.{◌≡◌, refl, ◌∙◌}
-use native.Mathlib.Omega.{arith}
-use borrow.Author.Rules.{rules}
-use borrow.Author.Tests.{lt-leb, le-leb}
+use mathlib.Core.Path.{◌≡◌}
 use lib.Dec.{leb}
 use lib.ListN.{length, drop}
 use Rattle.words.specs.Halves.{all, upper}
-use Rattle.words.proofs.Steps.{all-next, all-stop, all_end}
 use Rattle.layout.proofs.check.all_operated.Given as goal
 
 abbrev pub legal_operator : ℕ → Bool

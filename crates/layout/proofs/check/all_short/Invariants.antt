@@ -1,15 +1,11 @@
 -- `all_short` meets its contract: the lengths left are short exactly when all are, since each one passed is. Assumes nothing.
 use Prim.Native.Nat.{ℕ, ◌≤◌, ◌-◌}
 use mathlib.Core.Bool.{Bool}
-use mathlib.Core.Path.{◌≡◌, refl, ◌∙◌}
-use native.Mathlib.Omega.{arith}
-use borrow.Author.Rules.{rules}
-use borrow.Author.Tests.{lt-leb, le-leb}
+use mathlib.Core.Path.{◌≡◌}
 use lib.Dec.{leb}
 use lib.ListN.{length, drop}
 use Rattle.value.specs.Strings.{STRING}
 use Rattle.words.specs.Halves.{all}
-use Rattle.words.proofs.Steps.{all-next, all-stop, all_end}
 use Rattle.layout.proofs.check.all_short.Given as goal
 
 abbrev pub short : ℕ → Bool

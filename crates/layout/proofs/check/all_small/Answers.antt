@@ -1,11 +1,8 @@
 -- `all_small` meets its contract: the values left are small exactly when all are, since each one passed is. Assumes nothing.
-use Prim.Native.Nat.{◌≤◌, ◌-◌}
-use mathlib.Core.Path.{◌≡◌, refl, ◌∙◌}
+use mathlib.Core.Path.{refl, ◌∙◌}
 use native.Mathlib.Omega.{arith}
 use borrow.Author.Rules.{rules}
 use borrow.Author.Tests.{le-ltb, lt-ltb}
-use lib.ListN.{length, drop}
-use Rattle.words.specs.Halves.{all}
 use Rattle.words.proofs.Steps.{all-next, all-stop, all_end}
 use Rattle.layout.specs.Damage.{small}
 use Rattle.layout.proofs.check.all_small.Goals as goal

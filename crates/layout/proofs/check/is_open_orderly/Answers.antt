@@ -1,7 +1,6 @@
 -- `is_open_orderly` meets its contract: each way out before the last is a limit that is passed. Assumes nothing.
-use mathlib.Core.Path.{◌≡◌, sym, ap, ◌∙◌}
+use mathlib.Core.Path.{sym, ap, ◌∙◌}
 use native.Mathlib.Omega.{arith}
-use borrow.Author.Rules.{rules}
 use Rattle.layout.specs.Limits.{TEXTWORDS}
 use Rattle.layout.specs.Damage.{orderly}
 use Rattle.layout.specs.Totals.{under}

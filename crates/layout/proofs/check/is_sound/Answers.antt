@@ -1,11 +1,9 @@
 -- `is_sound` meets its contract: what is held is asked first, and then the open text. Assumes nothing.
 use mathlib.Core.Path.{◌≡◌, refl, sym, ap, ◌∙◌}
-use mathlib.Core.Bool.{Bool, true, false, ◌&&◌}
+use mathlib.Core.Bool.{Bool, true, ◌&&◌}
 use mathlib.Core.List.{List}
 use Prim.Native.Nat.{ℕ}
 use native.Mathlib.Omega.{arith}
-use borrow.Author.Rules.{rules}
-use borrow.Author.Tests.{not-true, not-false}
 use Rattle.plain.specs.Choice.{if◌then◌else◌}
 use Rattle.layout.specs.Limits.{TEXTS}
 use Rattle.layout.specs.Memory.{opens}

@@ -1,8 +1,6 @@
 -- `is_summed` meets its contract: the heads are asked, and then summed. Assumes nothing.
 use mathlib.Core.Path.{◌≡◌, sym, ap, ◌∙◌}
 use mathlib.Core.Bool.{Bool, true, false, ◌&&◌}
-use borrow.Author.Rules.{rules}
-use borrow.Author.Tests.{not-true, not-false}
 use lib.Dec.{eqb, leb}
 use Rattle.words.specs.Halves.{lower, sum, all}
 use Rattle.layout.proofs.check.is_summed.Goals as goal

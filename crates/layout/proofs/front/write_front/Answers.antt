@@ -2,7 +2,6 @@
 use mathlib.Core.Path.{◌≡◌, sym, ap, ◌∙◌}
 use mathlib.Core.List.{List, [], ◌∷◌}
 use Prim.Native.Nat.{ℕ}
-use borrow.Author.Rules.{rules}
 use Rattle.words.specs.Over.{over}
 use Rattle.words.proofs.Over.{over-append}
 use Rattle.layout.proofs.front.write_front.Goals as goal

@@ -1,12 +1,8 @@
 -- `sum_bytes` meets its contract: what is summed and what is left to sum are the whole sum, which fits a word; the heads left count
 -- values that are left. Assumes nothing.
-use mathlib.Core.Path.{◌≡◌}
-use Prim.Native.Nat.{◌+◌, ◌-◌, ◌≤◌}
 use native.Mathlib.Nat.{zero-add}
 use native.Mathlib.Omega.{arith}
-use lib.ListN.{length, drop}
-use Rattle.words.specs.Halves.{sum}
-use Rattle.layout.specs.Damage.{total_bytes}
+use lib.ListN.{drop}
 use Rattle.layout.proofs.Passing.{sum_left, few-here, total-next, total-end, total-most}
 use Rattle.layout.proofs.taken.sum_bytes.Goals as goal
 

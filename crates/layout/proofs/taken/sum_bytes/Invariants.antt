@@ -2,12 +2,9 @@
 -- values that are left. Assumes nothing.
 use mathlib.Core.Path.{◌≡◌}
 use Prim.Native.Nat.{◌+◌, ◌-◌, ◌≤◌}
-use native.Mathlib.Nat.{zero-add}
-use native.Mathlib.Omega.{arith}
 use lib.ListN.{length, drop}
 use Rattle.words.specs.Halves.{sum}
 use Rattle.layout.specs.Damage.{total_bytes}
-use Rattle.layout.proofs.Passing.{sum_left, few-here, total-next, total-end, total-most}
 use Rattle.layout.proofs.taken.sum_bytes.Given as goal
 
 abbrev pub invariant-loop-i : goal.invariant-loop-i

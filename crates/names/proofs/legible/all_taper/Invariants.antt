@@ -1,19 +1,10 @@
 -- `all_taper` meets its contract: after a word of name bytes only, what is asked of the rest is what is asked of all.
 -- Assumes nothing.
-use mathlib.Core.Path.{◌≡◌, refl, sym, ap, ◌∙◌}
-use mathlib.Core.Bool.{true, false}
-use mathlib.Core.List.{List, ◌∷◌}
-use Prim.Native.Nat.{ℕ, ◌+◌, ◌-◌, ◌%◌, ◌≤◌, ◌<◌}
-use native.Mathlib.Omega.{arith}
-use borrow.Author.Rules.{rules}
-use borrow.Author.Tests.{not-true, not-false}
-use lib.ListN.{length, take, drop, get_or}
-use Rattle.words.specs.Halves.{all}
-use Rattle.words.proofs.Steps.{drop-next, drop-end, rest_part}
-use Rattle.plain.proofs.Each.{each-drop}
-use Rattle.words.proofs.Each.{WORD, words_of}
-use Rattle.octets.specs.Octets.{bytes_of, octets}
-use Rattle.names.proofs.Tapering.{zeros, ends, ends_through, ends_last, ends-never, zeros-words}
+use mathlib.Core.Path.{◌≡◌}
+use Prim.Native.Nat.{◌-◌, ◌≤◌}
+use lib.ListN.{length, drop}
+use Rattle.octets.specs.Octets.{octets}
+use Rattle.names.proofs.Tapering.{ends}
 use Rattle.names.proofs.legible.all_taper.Given as goal
 
 abbrev pub invariant-loop-i : goal.invariant-loop-i

@@ -2,15 +2,11 @@
 -- Assumes nothing.
 use mathlib.Core.Path.{◌≡◌, refl, sym, ◌∙◌}
 use mathlib.Core.Bool.{true}
-use Prim.Native.Nat.{◌<◌, ◌/◌}
+use Prim.Native.Nat.{◌/◌}
 use native.Mathlib.Omega.{arith}
-use lib.ListN.{length}
-use Rattle.plain.specs.Runs.{run}
 use Rattle.value.specs.Classes.{name_byte}
-use Rattle.words.proofs.Each.{WORD}
 use Rattle.plain.proofs.Tests.{eqb_swap}
-use Rattle.octets.specs.Octets.{bytes_of}
-use Rattle.names.proofs.Tapering.{HIGHEST, ends, ends_next, run-next, ends-here}
+use Rattle.names.proofs.Tapering.{HIGHEST, ends_next, run-next, ends-here}
 use Rattle.names.proofs.legible.bytes_taper.Goals as goal
 
 pub loop-rest-init : goal.loop-rest-init

@@ -1,16 +1,13 @@
 -- `bytes_taper` meets its contract: a name byte that is shifted out changes nothing of what is asked, and each turn has one less.
 -- Assumes nothing.
-use mathlib.Core.Path.{◌≡◌, refl, sym, ◌∙◌}
-use mathlib.Core.Bool.{true}
-use Prim.Native.Nat.{◌<◌, ◌/◌}
-use native.Mathlib.Omega.{arith}
+use mathlib.Core.Path.{◌≡◌}
+use Prim.Native.Nat.{◌<◌}
 use lib.ListN.{length}
 use Rattle.plain.specs.Runs.{run}
 use Rattle.value.specs.Classes.{name_byte}
 use Rattle.words.proofs.Each.{WORD}
-use Rattle.plain.proofs.Tests.{eqb_swap}
 use Rattle.octets.specs.Octets.{bytes_of}
-use Rattle.names.proofs.Tapering.{HIGHEST, ends, ends_next, run-next, ends-here}
+use Rattle.names.proofs.Tapering.{ends}
 use Rattle.names.proofs.legible.bytes_taper.Given as goal
 
 abbrev pub invariant-loop-rest : goal.invariant-loop-rest

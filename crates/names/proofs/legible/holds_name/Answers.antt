@@ -1,7 +1,6 @@
 -- `holds_name` meets its contract: words that begin with one that is not zero hold a name exactly when they taper. Assumes nothing.
 use mathlib.Core.Path.{sym, ◌∙◌}
 use native.Mathlib.Omega.{arith}
-use borrow.Author.Rules.{rules}
 use Rattle.names.proofs.Tapering.{holds-none, holds-zero, holds-some}
 use Rattle.names.proofs.legible.holds_name.Goals as goal
 

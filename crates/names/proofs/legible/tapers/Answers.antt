@@ -1,6 +1,5 @@
 -- `tapers` meets its contract: after name bytes only there is nothing left. Assumes nothing.
 use mathlib.Core.Path.{sym}
-use borrow.Author.Rules.{rules}
 use Rattle.octets.specs.Octets.{bytes_of}
 use Rattle.names.proofs.Filling.{ends_named}
 use Rattle.names.proofs.legible.tapers.Goals as goal

@@ -1,7 +1,6 @@
 -- `byte_at` meets its contract: a place past the end has the default. Assumes nothing.
 use mathlib.Core.Path.{refl, sym}
 use native.Mathlib.Omega.{arith}
-use borrow.Author.Rules.{rules}
 use lib.Dec.{lit<}
 use lib.ListN.{get_or-eq_default}
 use Rattle.names.proofs.pack.byte_at.Goals as goal

@@ -1,6 +1,5 @@
 -- `filled` meets its contract: the word ends with as many zero bits as are shifted out, so each byte that goes is zero. Assumes nothing.
 use native.Mathlib.Omega.{arith}
-use borrow.Author.Rules.{rules}
 use Rattle.names.proofs.Filling.{raised-zeros}
 use Rattle.names.proofs.whole.filled.Goals as goal
 

@@ -1,6 +1,5 @@
 -- `set_byte_in` meets its contract: the area is lent, a byte of it is written, and it is put back. Assumes nothing.
 use mathlib.Core.List.{[], ◌∷◌}
-use borrow.Author.Rules.{rules}
 use Rattle.octets.proofs.Areas.{lent-inked}
 use Rattle.octets.proofs.area.set_byte_in.Goals as goal
 

@@ -1,13 +1,8 @@
 -- `all_fair` meets its contract: the bytes left are fair exactly when all are, since each word passed is. Assumes nothing.
-use mathlib.Core.Path.{◌≡◌, sym, ◌∙◌}
-use Prim.Native.Nat.{◌-◌, ◌*◌, ◌/◌, ◌≤◌}
+use mathlib.Core.Path.{sym, ◌∙◌}
 use native.Mathlib.Omega.{arith}
 use borrow.Author.Rules.{rules}
-use borrow.Author.Tests.{not-true, not-false}
-use lib.ListN.{take}
 use Rattle.plain.specs.Bytes.{fair}
-use Rattle.words.specs.Over.{part}
-use Rattle.words.specs.Halves.{all}
 use Rattle.octets.specs.Octets.{octets}
 use Rattle.octets.proofs.Tested.{tested-start, words-next, words-stop}
 use Rattle.octets.proofs.fair.all_fair.Goals as goal

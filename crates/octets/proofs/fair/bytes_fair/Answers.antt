@@ -1,12 +1,8 @@
 -- `bytes_fair` meets its contract: the bytes left are fair exactly when all are, since each byte passed is. Assumes nothing.
-use mathlib.Core.Path.{◌≡◌, sym, ap, ◌∙◌}
-use Prim.Native.Nat.{◌+◌, ◌-◌, ◌≤◌}
+use mathlib.Core.Path.{sym, ap, ◌∙◌}
 use native.Mathlib.Omega.{arith}
 use borrow.Author.Rules.{rules}
-use borrow.Author.Tests.{not-true, not-false}
 use Rattle.plain.specs.Bytes.{fair}
-use Rattle.words.specs.Over.{part}
-use Rattle.words.specs.Halves.{all}
 use Rattle.octets.specs.Octets.{octets}
 use Rattle.octets.proofs.Bytes.{length-octets}
 use Rattle.octets.proofs.Tested.{tested-start, tested-next, tested-stop, tested-end}

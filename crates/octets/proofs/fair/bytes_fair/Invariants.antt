@@ -1,15 +1,10 @@
 -- `bytes_fair` meets its contract: the bytes left are fair exactly when all are, since each byte passed is. Assumes nothing.
-use mathlib.Core.Path.{◌≡◌, sym, ap, ◌∙◌}
+use mathlib.Core.Path.{◌≡◌}
 use Prim.Native.Nat.{◌+◌, ◌-◌, ◌≤◌}
-use native.Mathlib.Omega.{arith}
-use borrow.Author.Rules.{rules}
-use borrow.Author.Tests.{not-true, not-false}
 use Rattle.plain.specs.Bytes.{fair}
 use Rattle.words.specs.Over.{part}
 use Rattle.words.specs.Halves.{all}
 use Rattle.octets.specs.Octets.{octets}
-use Rattle.octets.proofs.Bytes.{length-octets}
-use Rattle.octets.proofs.Tested.{tested-start, tested-next, tested-stop, tested-end}
 use Rattle.octets.proofs.fair.bytes_fair.Given as goal
 
 abbrev pub invariant-loop-i : goal.invariant-loop-i

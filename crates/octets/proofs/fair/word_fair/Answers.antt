@@ -1,5 +1,4 @@
 -- `word_fair` meets its contract: eight bytes are tested at once, and one by one where that does not settle it. Assumes nothing.
-use borrow.Author.Rules.{rules}
 use mathlib.Core.Path.{sym, ap, ◌∙◌}
 use Rattle.plain.specs.Bytes.{fair}
 use Rattle.words.specs.Halves.{all}

@@ -1,6 +1,5 @@
 -- `byte_at` meets its contract: the byte is in the word at an eighth of its place. Assumes nothing.
 use mathlib.Core.Path.{sym, ◌∙◌}
-use borrow.Author.Rules.{rules}
 use Rattle.octets.proofs.Bytes.{octet, octet-past}
 use Rattle.octets.proofs.read.byte_at.Goals as goal
 

@@ -1,10 +1,10 @@
 -- `copy_bytes` meets its contract: after j turns the first j bytes are copied. Assumes nothing.
 use mathlib.Core.Path.{◌≡◌, refl, sym, ap, ◌∙◌}
 use mathlib.Core.List.{List}
-use Prim.Native.Nat.{ℕ, ◌-◌, ◌≤◌}
+use Prim.Native.Nat.{ℕ}
 use native.Mathlib.Omega.{arith}
 use borrow.Author.Rules.{rules}
-use lib.ListN.{length, set, length-set}
+use lib.ListN.{set, length-set}
 use Rattle.words.specs.Over.{over, part}
 use Rattle.words.proofs.Over.{over-nil}
 use Rattle.octets.specs.Octets.{octets}

@@ -1,14 +1,9 @@
 -- `copy_bytes` meets its contract: after j turns the first j bytes are copied. Assumes nothing.
-use mathlib.Core.Path.{◌≡◌, refl, sym, ap, ◌∙◌}
-use mathlib.Core.List.{List}
-use Prim.Native.Nat.{ℕ, ◌-◌, ◌≤◌}
-use native.Mathlib.Omega.{arith}
-use borrow.Author.Rules.{rules}
-use lib.ListN.{length, set, length-set}
+use mathlib.Core.Path.{◌≡◌}
+use Prim.Native.Nat.{◌-◌, ◌≤◌}
+use lib.ListN.{length}
 use Rattle.words.specs.Over.{over, part}
-use Rattle.words.proofs.Over.{over-nil}
 use Rattle.octets.specs.Octets.{octets}
-use Rattle.octets.proofs.Inked.{copy-turn}
 use Rattle.octets.proofs.read.copy_bytes.Given as goal
 
 abbrev pub invariant-loop-j : goal.invariant-loop-j

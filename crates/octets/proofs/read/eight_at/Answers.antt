@@ -1,5 +1,4 @@
 -- `eight_at` meets its contract: the bytes fill a word, or begin in one and end in the next. Assumes nothing.
-use borrow.Author.Rules.{rules}
 use Prim.Native.Nat.{◌+◌, ◌-◌, ◌*◌, ◌/◌, ◌%◌, ◌^◌}
 use native.Mathlib.Omega.{arith}
 use lib.ListN.{get_or}

@@ -1,5 +1,4 @@
 -- `byte_of` meets its contract: a shift and a remainder take the byte out. Assumes nothing.
-use borrow.Author.Rules.{rules}
 use Rattle.octets.proofs.Eight.{byte-shifted}
 use Rattle.octets.proofs.word.byte_of.Goals as goal
 

@@ -1,7 +1,6 @@
 -- `with_byte` meets its contract: the byte that stood there is taken away, and the other one put in its place. Assumes nothing.
 use Prim.Native.Nat.{◌-◌, ◌*◌, ◌/◌, ◌%◌, ◌^◌}
 use native.Mathlib.Omega.{arith}
-use borrow.Author.Rules.{rules}
 use lib.ListN.{set}
 use Rattle.octets.specs.Octets.{bytes_of}
 use Rattle.octets.proofs.Eight.{Changed, changes}

@@ -1,5 +1,4 @@
 -- `move_some` meets its contract: a word of the eight bytes is stored, or the one byte. Assumes nothing.
-use borrow.Author.Rules.{rules}
 use mathlib.Core.Path.{ap, ◌∙◌}
 use mathlib.Core.List.{List}
 use Prim.Native.Nat.{ℕ}

@@ -1,7 +1,6 @@
 -- `set_byte` meets its contract: a word is stored that differs in the one byte. Assumes nothing.
 use mathlib.Core.Path.{sym}
 use native.Mathlib.Omega.{arith}
-use borrow.Author.Rules.{rules}
 use mathlib.Core.List.{[], ◌∷◌}
 use Rattle.words.proofs.Each.{words_of}
 use Rattle.octets.proofs.Inked.{inked-set, inked-past}

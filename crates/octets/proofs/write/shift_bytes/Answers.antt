@@ -1,10 +1,9 @@
 -- `shift_bytes` meets its contract: after some turns the first j bytes are moved, and the next ones to read stand where they stood. Assumes nothing.
 use mathlib.Core.Path.{◌≡◌, refl, sym, ap, ◌∙◌}
 use mathlib.Core.List.{List}
-use Prim.Native.Nat.{ℕ, ◌+◌, ◌-◌, ◌≤◌}
+use Prim.Native.Nat.{ℕ, ◌+◌}
 use native.Mathlib.Omega.{arith}
 use borrow.Author.Rules.{rules}
-use lib.ListN.{length}
 use Rattle.words.specs.Over.{part}
 use Rattle.words.proofs.Each.{words_of}
 use Rattle.octets.specs.Octets.{octets, inked}

@@ -1,14 +1,9 @@
 -- `shift_bytes` meets its contract: after some turns the first j bytes are moved, and the next ones to read stand where they stood. Assumes nothing.
-use mathlib.Core.Path.{◌≡◌, refl, sym, ap, ◌∙◌}
-use mathlib.Core.List.{List}
-use Prim.Native.Nat.{ℕ, ◌+◌, ◌-◌, ◌≤◌}
-use native.Mathlib.Omega.{arith}
-use borrow.Author.Rules.{rules}
+use mathlib.Core.Path.{◌≡◌}
+use Prim.Native.Nat.{◌-◌, ◌≤◌}
 use lib.ListN.{length}
 use Rattle.words.specs.Over.{part}
-use Rattle.words.proofs.Each.{words_of}
 use Rattle.octets.specs.Octets.{octets, inked}
-use Rattle.octets.proofs.Inked.{inked-nil, shift-turn}
 use Rattle.octets.proofs.write.shift_bytes.Given as goal
 
 abbrev pub invariant-loop-j : goal.invariant-loop-j

@@ -4,7 +4,6 @@ use mathlib.Core.Path.{◌≡◌, sym, ap, subst, ◌∙◌}
 use native.Mathlib.Nat.{le_trans, lt_of_lt_of_le, one-mul, mod-eq_of_lt, mod-lt, mul-le-mul_left, div-mul-le_self}
 use native.Mathlib.Numerals.{add-one}
 use native.Mathlib.Omega.{arith}
-use borrow.Author.Rules.{rules}
 use lib.Pow.{pow_pos, pow-lt, pow_mono}
 use lib.Ieee.{nearest}
 use lib.Ieee.Nearest.{closest}

@@ -3,7 +3,6 @@ use Prim.Native.Nat.{ℕ, ◌*◌, ◌%◌, ◌^◌, ◌≤◌}
 use mathlib.Core.Path.{◌≡◌, sym, ap, ap₂, ◌∙◌}
 use mathlib.Core.Bool.{false}
 use native.Mathlib.Nat.{le_trans, le_of_eq, lt_of_le_of_lt, one-mul, mod-eq_of_lt, pow-le-pow_right}
-use borrow.Author.Rules.{rules}
 use lib.Dec.{le→leb, lit<, lit≤}
 use lib.Ieee.{binary64, in_float, of_int, round}
 use Rattle.plain.specs.Doubles.{◌⊗◌}

@@ -1,6 +1,5 @@
 -- `read_head` meets its contract: each way out is one case of `head`. Assumes nothing.
 use mathlib.Core.Path.{sym}
-use borrow.Author.Rules.{rules}
 use borrow.Author.Tests.{lt-ltb, le-ltb}
 use Rattle.statement.specs.Head.{head}
 use Rattle.statement.proofs.head.read_head.Goals as goal

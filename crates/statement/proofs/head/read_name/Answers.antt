@@ -1,7 +1,6 @@
 -- `read_name` meets its contract: each way out is one case of `head_named`. Assumes nothing.
 use native.Mathlib.Omega.{arith}
 use mathlib.Core.Path.{sym}
-use borrow.Author.Rules.{rules}
 use borrow.Author.Tests.{le-leb, lt-leb}
 use Rattle.plain.proofs.Places.{past_after}
 use Rattle.value.specs.Classes.{name_byte}

@@ -2,7 +2,6 @@
 use Prim.Native.Nat.{◌+◌}
 use native.Mathlib.Omega.{arith}
 use mathlib.Core.Path.{sym}
-use borrow.Author.Rules.{rules}
 use Rattle.plain.specs.Bytes.{PLUS, EQUALS}
 use Rattle.value.proofs.Standing.{stands-within}
 use Rattle.statement.proofs.head.read_operator.Goals as goal

@@ -1,12 +1,9 @@
 -- `count_items` meets its contract: the values counted so far and the items left to count make all. Assumes nothing.
-use Prim.Native.Nat.{◌+◌, ◌≤◌}
 use native.Mathlib.Omega.{arith}
-use mathlib.Core.Path.{◌≡◌, sym, ◌∙◌}
-use borrow.Author.Rules.{rules}
-use lib.ListN.{length}
-use Rattle.statement.specs.Values.{items_up_to, items, tally}
+use mathlib.Core.Path.{sym, ◌∙◌}
+use Rattle.statement.specs.Values.{items}
 use Rattle.statement.proofs.Found.{number-on, string-on, item-string}
-use Rattle.statement.proofs.Items.{with_items, none_yet, at_last, at-end, at-close, at-fault, at-number, at-string}
+use Rattle.statement.proofs.Items.{none_yet, at_last, at-end, at-close, at-fault, at-number, at-string}
 use Rattle.statement.proofs.values.count_items.Goals as goal
 
 pub loop-left-init : goal.loop-left-init

@@ -1,12 +1,9 @@
 -- `count_items` meets its contract: the values counted so far and the items left to count make all. Assumes nothing.
 use Prim.Native.Nat.{◌+◌, ◌≤◌}
-use native.Mathlib.Omega.{arith}
-use mathlib.Core.Path.{◌≡◌, sym, ◌∙◌}
-use borrow.Author.Rules.{rules}
+use mathlib.Core.Path.{◌≡◌}
 use lib.ListN.{length}
 use Rattle.statement.specs.Values.{items_up_to, items, tally}
-use Rattle.statement.proofs.Found.{number-on, string-on, item-string}
-use Rattle.statement.proofs.Items.{with_items, none_yet, at_last, at-end, at-close, at-fault, at-number, at-string}
+use Rattle.statement.proofs.Items.{with_items}
 use Rattle.statement.proofs.values.count_items.Given as goal
 
 abbrev pub invariant-loop-left : goal.invariant-loop-left

@@ -1,7 +1,6 @@
 -- `list` meets its contract: each way out is one case of `list_end`, the counts standing for the items. Assumes nothing.
 use native.Mathlib.Omega.{arith}
 use mathlib.Core.Path.{◌∙◌}
-use borrow.Author.Rules.{rules}
 use lib.ListN.{length}
 use Rattle.statement.specs.Values.{items}
 use Rattle.statement.proofs.Pointed.{closes-within}

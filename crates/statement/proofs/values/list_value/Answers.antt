@@ -1,6 +1,5 @@
 -- `list_value` meets its contract: either way out is one case of `list_value`. Assumes nothing.
 use mathlib.Core.Path.{sym}
-use borrow.Author.Rules.{rules}
 use Rattle.statement.specs.Values.{list_value}
 use Rattle.statement.proofs.values.list_value.Goals as goal
 

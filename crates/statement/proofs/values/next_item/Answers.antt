@@ -1,6 +1,5 @@
 -- `next_item` meets its contract: each way out is one case of `item`. Assumes nothing.
 use mathlib.Core.Path.{sym}
-use borrow.Author.Rules.{rules}
 use borrow.Author.Tests.{lt-ltb, le-ltb}
 use Rattle.statement.specs.Values.{item}
 use Rattle.statement.proofs.values.next_item.Goals as goal

@@ -1,6 +1,5 @@
 -- `rest` meets its contract: either way out is one case of `rest`. Assumes nothing.
 use mathlib.Core.Path.{sym}
-use borrow.Author.Rules.{rules}
 use borrow.Author.Tests.{lt-ltb, le-ltb}
 use Rattle.statement.specs.Values.{rest}
 use Rattle.statement.proofs.values.rest.Goals as goal

@@ -1,10 +1,6 @@
 -- `is_word` meets its contract: what is left of the word, compared with what is left of the line, is the whole comparison. Assumes nothing.
-use Prim.Native.Nat.{◌≤◌, ◌-◌}
 use native.Mathlib.Omega.{arith}
-use mathlib.Core.Path.{◌≡◌, refl, sym, ◌∙◌}
-use borrow.Author.Rules.{rules}
-use lib.ListN.{length, drop}
-use Rattle.text.specs.Delimiters.{word}
+use mathlib.Core.Path.{refl, sym, ◌∙◌}
 use Rattle.text.proofs.Words.{word-step, word-differs, word-short, word_end}
 use Rattle.text.proofs.delimiters.is_word.Goals as goal
 

@@ -2,7 +2,6 @@
 use mathlib.Core.Path.{sym, ◌∙◌}
 use Rattle.text.specs.Delimiters.{BEGINDATA, BEGINTEXT, mark_of}
 use Rattle.text.proofs.Words.{exactly-at}
-use borrow.Author.Rules.{rules}
 use Rattle.text.proofs.delimiters.read_mark.Goals as goal
 
 pub returns-then-is_word : goal.returns-then-is_word

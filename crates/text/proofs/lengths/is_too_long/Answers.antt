@@ -1,6 +1,5 @@
 -- `is_too_long` meets its contract: its two ways out are the two sides of the limit. Assumes nothing.
 use native.Mathlib.Omega.{arith}
-use borrow.Author.Rules.{rules}
 use borrow.Author.Tests.{lt-ltb, le-ltb}
 use Rattle.text.specs.Lengths.{LONGEST_LINE}
 use Rattle.text.proofs.lengths.is_too_long.Goals as goal

@@ -1,5 +1,4 @@
 -- `answer_of` meets its contract: each way out is one case of `answer_of`. Assumes nothing.
-use borrow.Author.Rules.{rules}
 use Rattle.text.proofs.line.answer_of.Goals as goal
 
 pub returns-in-Values : goal.returns-in-Values

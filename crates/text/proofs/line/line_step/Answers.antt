@@ -1,6 +1,5 @@
 -- `line_step` meets its contract: its two ways out are the two cases of `answered`. Assumes nothing.
 use mathlib.Core.Path.{sym}
-use borrow.Author.Rules.{rules}
 use Rattle.text.specs.Line.{answered}
 use Rattle.text.proofs.line.line_step.Goals as goal
 

@@ -1,6 +1,5 @@
 -- `list_on` meets its contract: a byte that is not fair comes first, and then the list's part in the line. Assumes nothing.
 use mathlib.Core.Path.{sym, ap, ◌∙◌}
-use borrow.Author.Rules.{rules}
 use borrow.Author.Tests.{lt-ltb, le-ltb}
 use Rattle.statement.specs.Values.{listed}
 use Rattle.text.specs.Line.{answer_of}

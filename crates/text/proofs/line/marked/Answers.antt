@@ -1,5 +1,4 @@
 -- `marked` meets its contract: each way out is one case of `marked`. Assumes nothing.
-use borrow.Author.Rules.{rules}
 use Rattle.text.proofs.line.marked.Goals as goal
 
 pub returns-in-Data : goal.returns-in-Data

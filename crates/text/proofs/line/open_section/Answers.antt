@@ -1,5 +1,4 @@
 -- `open_section` meets its contract: each way out is one case of `section`. Assumes nothing.
-use borrow.Author.Rules.{rules}
 use Rattle.text.proofs.line.open_section.Goals as goal
 
 pub returns-in-Text : goal.returns-in-Text

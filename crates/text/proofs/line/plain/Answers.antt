@@ -1,5 +1,4 @@
 -- `plain` meets its contract: each way out is one case of `plain`. Assumes nothing.
-use borrow.Author.Rules.{rules}
 use Rattle.text.proofs.line.plain.Goals as goal
 
 pub returns-in-Text : goal.returns-in-Text

@@ -1,6 +1,5 @@
 -- `statement` meets its contract: each way out is one case of `fairly` or `stated`. Assumes nothing.
 use mathlib.Core.Path.{sym, ap, ◌∙◌}
-use borrow.Author.Rules.{rules}
 use borrow.Author.Tests.{lt-ltb, le-ltb}
 use Rattle.text.specs.Line.{answer_of}
 use Rattle.text.proofs.Counting.{counted-statement}

@@ -1,6 +1,5 @@
 -- `cut_line` meets its contract: each way out is one way in which a line may end. Assumes nothing.
 use native.Mathlib.Omega.{arith}
-use borrow.Author.Rules.{rules}
 use Rattle.text.proofs.LineEnds.{ends-within, cut-last, cut-empty, cut-CR, cut-LF}
 use Rattle.text.proofs.lines.cut_line.Goals as goal
 

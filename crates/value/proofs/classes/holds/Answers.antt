@@ -1,5 +1,4 @@
 -- `holds` meets its contract: each way out is one case of `bit`. Assumes nothing.
-use borrow.Author.Rules.{rules}
 use borrow.Author.Tests.{lt-ltb, le-ltb}
 use Rattle.value.specs.Masks.{bit}
 use Rattle.value.proofs.classes.holds.Goals as goal

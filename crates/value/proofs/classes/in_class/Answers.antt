@@ -1,7 +1,6 @@
 -- `in_class` meets its contract: the mask tells the class at every byte. Assumes nothing.
 use native.Mathlib.Omega.{arith}
 use mathlib.Core.Path.{◌∙◌}
-use borrow.Author.Rules.{rules}
 use Rattle.value.proofs.classes.in_class.Goals as goal
 
 pub returns : goal.returns

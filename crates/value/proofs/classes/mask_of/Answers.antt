@@ -1,5 +1,4 @@
 -- `mask_of` meets its contract: each mask is compared with its class at every byte, by computation. Assumes nothing.
-use borrow.Author.Rules.{rules}
 use mathlib.Core.Path.{refl}
 use Rattle.value.specs.Masks.{bit}
 use Rattle.value.proofs.Masks.{tells}

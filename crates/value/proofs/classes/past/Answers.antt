@@ -1,12 +1,7 @@
 -- `past` meets its contract: the run from i on ends where the run from `at` on does, and the mask tells the class. Assumes nothing.
-use Prim.Native.Nat.{◌-◌}
 use native.Mathlib.Omega.{arith}
-use mathlib.Core.Path.{◌≡◌, refl, sym, ◌∙◌}
-use borrow.Author.Rules.{rules}
-use lib.ListN.{length}
-use Rattle.plain.specs.Runs.{past}
+use mathlib.Core.Path.{sym, ◌∙◌}
 use Rattle.plain.proofs.Places.{past-step, past_stop, past_end, past_same}
-use Rattle.value.specs.Masks.{bit}
 use Rattle.value.proofs.classes.past.Goals as goal
 
 pub loop-i-preserved : goal.loop-i-preserved

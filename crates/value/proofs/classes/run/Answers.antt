@@ -3,7 +3,6 @@ use native.Mathlib.Omega.{arith}
 use mathlib.Core.Path.{sym}
 use Rattle.plain.proofs.Places.{past_after, take_past, run-beyond}
 use Rattle.value.specs.Classes.{is}
-use borrow.Author.Rules.{rules}
 use Rattle.value.proofs.classes.run.Goals as goal
 
 pub slice_bounds-result-count : goal.slice_bounds-result-count

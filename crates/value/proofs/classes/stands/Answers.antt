@@ -1,6 +1,5 @@
 -- `stands` meets its contract: past the line's end `get_or` gives 0. Assumes nothing.
 use lib.ListN.{get_or-eq_default}
-use borrow.Author.Rules.{rules}
 use Rattle.value.proofs.classes.stands.Goals as goal
 
 pub returns : goal.returns

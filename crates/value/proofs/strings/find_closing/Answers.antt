@@ -1,11 +1,8 @@
 -- `find_closing` meets its contract: the bytes counted so far and those left make all. Assumes nothing.
-use Prim.Native.Nat.{◌+◌, ◌-◌, ◌≤◌}
+use Prim.Native.Nat.{◌+◌}
 use native.Mathlib.Omega.{arith}
-use mathlib.Core.Path.{◌≡◌, refl, ◌∙◌}
-use borrow.Author.Rules.{rules}
-use lib.ListN.{length, drop}
+use mathlib.Core.Path.{refl, ◌∙◌}
 use Rattle.plain.specs.Bytes.{QUOTE}
-use Rattle.value.specs.Strings.{scanned, closing}
 use Rattle.value.proofs.Scanning.{at-line-end, at_byte, at-quotes, at-quote}
 use Rattle.value.proofs.Standing.{stands-within}
 use Rattle.value.proofs.strings.find_closing.Goals as goal

@@ -1,7 +1,6 @@
 -- `fitting` meets its contract: its ways out are the tests of `fitting`. Assumes nothing.
 use mathlib.Core.Path.{sym}
 use borrow.Author.Tests.{le-leb, lt-leb}
-use borrow.Author.Rules.{rules}
 use Rattle.value.proofs.strings.fitting.Goals as goal
 
 pub returns-then-is_followed : goal.returns-then-is_followed

@@ -2,7 +2,6 @@
 use mathlib.Core.Path.{ap}
 use mathlib.Core.Bool.{not}
 use borrow.Author.Tests.{lt-ltb, le-ltb}
-use borrow.Author.Rules.{rules}
 use Rattle.value.proofs.strings.is_followed.Goals as goal
 
 pub returns-then-at-line : goal.returns-then-at-line

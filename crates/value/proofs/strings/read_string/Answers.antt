@@ -1,6 +1,5 @@
 -- `read_string` meets its contract: either way out is one case of `enclosed`. Assumes nothing.
 use mathlib.Core.Path.{sym}
-use borrow.Author.Rules.{rules}
 use Rattle.value.specs.Strings.{string_at}
 use Rattle.value.proofs.strings.read_string.Goals as goal
 

@@ -1,13 +1,8 @@
 -- `append` meets its contract: after i turns the first i bytes are written. Assumes nothing.
-use mathlib.Core.Path.{◌≡◌, refl, sym, ap, ◌∙◌}
-use mathlib.Core.List.{List}
-use Prim.Native.Nat.{ℕ, ◌+◌, ◌-◌, ◌≤◌}
-use native.Mathlib.Omega.{arith}
-use borrow.Author.Rules.{rules}
-use lib.ListN.{length, take, get_or, set, length-set}
-use lib.Seq.{take_all}
+use mathlib.Core.Path.{◌≡◌}
+use Prim.Native.Nat.{◌-◌, ◌≤◌}
+use lib.ListN.{length, take}
 use Rattle.words.specs.Over.{over}
-use Rattle.words.proofs.Over.{over-nil, over-turn}
 use Rattle.words.proofs.bytes.append.Given as goal
 
 abbrev pub invariant-loop-i : goal.invariant-loop-i

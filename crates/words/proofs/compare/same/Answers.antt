@@ -1,11 +1,8 @@
 -- `same` meets its contract: lists of two lengths differ, and what is left to compare is found the same as all. Assumes nothing.
-use mathlib.Core.Path.{◌≡◌, refl, ◌∙◌}
-use Prim.Native.Nat.{◌≤◌, ◌-◌}
+use mathlib.Core.Path.{refl, ◌∙◌}
 use native.Mathlib.Omega.{arith}
 use borrow.Author.Rules.{rules}
 use borrow.Author.Tests.{eq-eqb, ne_eqb}
-use lib.ListN.{length, drop}
-use Rattle.plain.specs.Lists.{equal}
 use Rattle.words.proofs.Same.{same-lengths}
 use Rattle.words.proofs.Steps.{same_next, same_stop, same_end}
 use Rattle.words.proofs.compare.same.Goals as goal

@@ -6,7 +6,7 @@ use mathlib.Core.List.{List}
 use native.Mathlib.Omega.{arith}
 use borrow.Author.Rules.{rules}
 use lib.ListN.{length, drop, take}
-use Rattle.words.specs.Halves.{distinct, place}
+use Rattle.words.specs.Halves.{place}
 use Rattle.words.proofs.Steps.{distinct-next, distinct-stop, distinct-end, rest_part}
 use Rattle.words.proofs.scan.all_distinct.Goals as goal
 

@@ -1,13 +1,9 @@
 -- `all_distinct` meets its contract: what is left is distinct exactly when all is, since each word passed stands only once.
 -- Assumes nothing.
-use Prim.Native.Nat.{ℕ, ◌+◌, ◌≤◌, ◌<◌, ◌-◌}
-use mathlib.Core.Path.{◌≡◌, refl, ap, ◌∙◌}
-use mathlib.Core.List.{List}
-use native.Mathlib.Omega.{arith}
-use borrow.Author.Rules.{rules}
-use lib.ListN.{length, drop, take}
-use Rattle.words.specs.Halves.{distinct, place}
-use Rattle.words.proofs.Steps.{distinct-next, distinct-stop, distinct-end, rest_part}
+use Prim.Native.Nat.{◌≤◌, ◌-◌}
+use mathlib.Core.Path.{◌≡◌}
+use lib.ListN.{length, drop}
+use Rattle.words.specs.Halves.{distinct}
 use Rattle.words.proofs.scan.all_distinct.Given as goal
 
 abbrev pub invariant-loop-i : goal.invariant-loop-i

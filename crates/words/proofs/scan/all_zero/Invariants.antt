@@ -1,13 +1,9 @@
 -- `all_zero` meets its contract: the words left are zero exactly when all are, since each word passed is. Assumes nothing.
 use Prim.Native.Nat.{◌≤◌, ◌-◌}
-use mathlib.Core.Path.{◌≡◌, refl, sym, ◌∙◌}
-use native.Mathlib.Omega.{arith}
-use borrow.Author.Rules.{rules}
-use borrow.Author.Tests.{eq-eqb, ne_eqb}
+use mathlib.Core.Path.{◌≡◌}
 use lib.Dec.{eqb}
 use lib.ListN.{length, drop}
 use Rattle.words.specs.Halves.{all}
-use Rattle.words.proofs.Steps.{all-next, all-stop, all_end}
 use Rattle.words.proofs.scan.all_zero.Given as goal
 
 abbrev pub invariant-loop-i : goal.invariant-loop-i

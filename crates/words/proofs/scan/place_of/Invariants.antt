@@ -1,11 +1,8 @@
 -- `place_of` meets its contract: the place is as far on as the place in what is left. Assumes nothing.
 use Prim.Native.Nat.{◌+◌, ◌≤◌, ◌-◌}
 use mathlib.Core.Path.{◌≡◌}
-use native.Mathlib.Omega.{arith}
-use borrow.Author.Tests.{eq-eqb, ne_eqb}
 use lib.ListN.{length, drop}
 use Rattle.words.specs.Halves.{place}
-use Rattle.words.proofs.Steps.{place_here, place-next, place_end}
 use Rattle.words.proofs.scan.place_of.Given as goal
 
 abbrev pub invariant-loop-i : goal.invariant-loop-i

@@ -1,9 +1,5 @@
 -- `sum_lower` meets its contract: the total and the sum of what is left are the sum of all. Assumes nothing.
-use Prim.Native.Nat.{◌+◌, ◌≤◌, ◌*◌, ◌-◌}
-use mathlib.Core.Path.{◌≡◌}
 use native.Mathlib.Omega.{arith}
-use lib.ListN.{length, drop}
-use Rattle.words.specs.Halves.{HALF, sum}
 use Rattle.words.proofs.Steps.{sum-next, sum-end}
 use Rattle.words.proofs.scan.sum_lower.Goals as goal
 

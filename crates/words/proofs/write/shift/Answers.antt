@@ -1,11 +1,11 @@
 -- `shift` meets its contract: after j turns the first j words are moved, and the next one to read stands where it stood.
 -- Assumes nothing.
-use Prim.Native.Nat.{ℕ, ◌+◌, ◌≤◌, ◌-◌}
+use Prim.Native.Nat.{ℕ, ◌+◌}
 use mathlib.Core.Path.{◌≡◌, refl, sym, ap, ◌∙◌}
 use mathlib.Core.List.{List}
 use native.Mathlib.Omega.{arith}
 use borrow.Author.Rules.{rules}
-use lib.ListN.{length, get_or, set, length-set}
+use lib.ListN.{get_or, set, length-set}
 use Rattle.words.specs.Over.{moved}
 use Rattle.words.proofs.Over.{over-nil, moved-turn}
 use Rattle.words.proofs.write.shift.Goals as goal

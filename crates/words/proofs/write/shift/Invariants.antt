@@ -1,13 +1,9 @@
 -- `shift` meets its contract: after j turns the first j words are moved, and the next one to read stands where it stood.
 -- Assumes nothing.
-use Prim.Native.Nat.{ℕ, ◌+◌, ◌≤◌, ◌-◌}
-use mathlib.Core.Path.{◌≡◌, refl, sym, ap, ◌∙◌}
-use mathlib.Core.List.{List}
-use native.Mathlib.Omega.{arith}
-use borrow.Author.Rules.{rules}
-use lib.ListN.{length, get_or, set, length-set}
+use Prim.Native.Nat.{◌≤◌, ◌-◌}
+use mathlib.Core.Path.{◌≡◌}
+use lib.ListN.{length}
 use Rattle.words.specs.Over.{moved}
-use Rattle.words.proofs.Over.{over-nil, moved-turn}
 use Rattle.words.proofs.write.shift.Given as goal
 
 abbrev pub invariant-loop-j : goal.invariant-loop-j

@@ -1,6 +1,5 @@
 -- `store` meets its contract: a store is one word written over, and past the end nothing is written. Assumes nothing.
 use mathlib.Core.Path.{sym}
-use borrow.Author.Rules.{rules}
 use Rattle.words.proofs.Over.{over-one, over-past}
 use Rattle.words.proofs.write.store.Goals as goal
 
