@@ -1,6 +1,6 @@
 -- The answers of open, feed and drop, question by question: 15, then 22 and 1, or 8; a refusal leaves the memory. Assumes nothing.
 use Prim.Native.Nat.{ℕ}
-use mathlib.Core.Path.{◌≡◌, refl, sym, ap, ◌∙◌}
+use mathlib.Core.Path.{◌≡◌, sym}
 use mathlib.Core.Bool.{true, false}
 use mathlib.Core.List.{List}
 use Rattle.refusal.specs.declared.Refusal.{Refusal}
@@ -9,7 +9,7 @@ use Rattle.layout.specs.Memory.{decode, opens, open_label}
 use Rattle.layout.specs.Damage.{sound}
 use Rattle.pool.specs.Held.{held}
 use Rattle.pool.specs.Replies.{refusing}
-use Rattle.pool.specs.declared.reply.Reply.TheVariants.{Done, Refused}
+use Rattle.pool.specs.declared.reply.Reply.TheVariants.{Done}
 use Rattle.feeding.specs.Parts.{fed}
 use Rattle.entering.specs.Entries.{complete_on}
 use Rattle.intake.specs.Opened.{open_in, stowed, beginning, shut}

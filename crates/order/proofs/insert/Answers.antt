@@ -3,7 +3,6 @@ use mathlib.Core.Path.{◌≡◌, refl, sym, subst, ◌∙◌}
 use mathlib.Core.List.{List}
 use Prim.Native.Nat.{ℕ, ◌+◌, ◌≤◌}
 use native.Mathlib.Omega.{arith}
-use borrow.Author.Rules.{rules}
 use Rattle.words.proofs.Over.{length_over}
 use Rattle.order.specs.Places.{Inserting, Inserts, name_at, names_at, spot, raised}
 use Rattle.order.specs.declared.Spot.{Spot}

@@ -6,7 +6,7 @@ use native.Mathlib.Omega.{arith}
 use lib.ListN.{length, drop}
 use Rattle.words.specs.Halves.{all}
 use Rattle.order.specs.Order.{inserted}
-use Rattle.order.specs.Places.{Places, Legible, Inserting, Inserts, name_count, name_at, names_at, cut_names, ordered}
+use Rattle.order.specs.Places.{Legible, Inserting, Inserts, name_count, name_at, cut_names, ordered}
 use Rattle.order.proofs.Named.{ordered-next, ordered_end}
 use Rattle.order.proofs.order.Invariants.{Sorted}
 use Rattle.order.proofs.order.Goals as goal

@@ -1,13 +1,9 @@
 -- `order` meets its contract: before each turn the names from place i on are in order. Assumes nothing.
-use mathlib.Core.Path.{◌≡◌, refl, sym, ap, ◌∙◌}
+use mathlib.Core.Path.{◌≡◌}
 use mathlib.Core.List.{List}
-use Prim.Native.Nat.{ℕ, ◌+◌, ◌-◌, ◌≤◌, ◌<◌}
-use native.Mathlib.Omega.{arith}
+use Prim.Native.Nat.{ℕ, ◌+◌, ◌-◌, ◌≤◌}
 use lib.ListN.{length, drop}
-use Rattle.words.specs.Halves.{all}
-use Rattle.order.specs.Order.{inserted}
-use Rattle.order.specs.Places.{Places, Legible, Inserting, Inserts, name_count, name_at, names_at, cut_names, ordered}
-use Rattle.order.proofs.Named.{ordered-next, ordered_end}
+use Rattle.order.specs.Places.{Places, name_count, names_at, cut_names, ordered}
 use Rattle.order.proofs.order.Given as goal
 
 -- the names from place i on are in order

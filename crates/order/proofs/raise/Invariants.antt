@@ -1,12 +1,9 @@
 -- `raise` meets its contract: before each turn the places up to i stand as they will, and the next to stand is carried. Assumes nothing.
-use mathlib.Core.Path.{◌≡◌, refl, sym, ap, ◌∙◌}
-use mathlib.Core.List.{List, ◌∷◌}
-use Prim.Native.Nat.{ℕ, suc, ◌+◌, ◌-◌, ◌≤◌, ◌<◌}
-use native.Mathlib.Omega.{arith}
-use lib.ListN.{length, take, drop, get_or, set, length-set}
+use mathlib.Core.Path.{◌≡◌}
+use mathlib.Core.List.{◌∷◌}
+use Prim.Native.Nat.{◌+◌, ◌-◌, ◌≤◌}
+use lib.ListN.{length, take, drop, get_or}
 use Rattle.words.specs.Over.{over}
-use Rattle.words.proofs.Over.{over-nil}
-use Rattle.order.proofs.Raising.{carried-next, raised-next}
 use Rattle.order.proofs.raise.Given as goal
 
 abbrev pub invariant-loop-i : goal.invariant-loop-i

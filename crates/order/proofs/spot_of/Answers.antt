@@ -2,7 +2,7 @@
 use mathlib.Core.Path.{◌≡◌, sym, ap, ap₂, ◌∙◌}
 use mathlib.Core.Bool.{Bool, true, false}
 use mathlib.Core.List.{List}
-use Prim.Native.Nat.{ℕ, ◌+◌, ◌-◌, ◌≤◌, ◌<◌}
+use Prim.Native.Nat.{ℕ, ◌+◌, ◌-◌, ◌<◌}
 use native.Mathlib.Omega.{arith}
 use lib.ListN.{length, drop, get_or}
 use mir.Val.{Fits}
@@ -89,13 +89,12 @@ returns-then-same c =
     (sym c.same.ensures ∙ c.if-same.true)
 
 pub loop-at-preserved : goal.loop-at-preserved
-loop-at-preserved c =
-    (
-      omega arith,
-      goes_on _ _ _ _ c.requires c.shared_slice_known-1.given _ c.loop-at-test.true _ _
-          c.name_at-name.ensures c.name_at-other.ensures c.loop-at.invariant.1 (sym c.stands_before.ensures ∙ c.if-stands_before.false)
-          (sym c.same.ensures ∙ c.if-same.false),
-    )
+loop-at-preserved c = (
+  omega arith,
+  goes_on _ _ _ _ c.requires c.shared_slice_known-1.given _ c.loop-at-test.true _ _
+      c.name_at-name.ensures c.name_at-other.ensures c.loop-at.invariant.1 (sym c.stands_before.ensures ∙ c.if-stands_before.false)
+      (sym c.same.ensures ∙ c.if-same.false),
+)
 
 pub returns : goal.returns
 returns c =

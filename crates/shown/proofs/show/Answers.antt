@@ -1,5 +1,4 @@
 -- `show` meets its contract: the parts of what is shown are written one after the other. Assumes nothing.
-use borrow.Author.Rules.{rules}
 use Rattle.shown.proofs.Showing.{sized, ordering, room-heading, counting, room-total, valuing, all_shown}
 use Rattle.shown.proofs.show.Goals as goal
 

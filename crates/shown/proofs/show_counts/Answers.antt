@@ -9,9 +9,9 @@ use Rattle.words.specs.Placed.{Room, Writes}
 use Rattle.words.proofs.Placed.{writes-length}
 use Rattle.names.specs.Names.{unpacked}
 use Rattle.layout.specs.State.{flat}
-use Rattle.layout.specs.Memory.{name_words, decode}
+use Rattle.layout.specs.Memory.{name_words}
 use Rattle.layout.proofs.Sound.{Sound, sound-of}
-use Rattle.variables.specs.Variables.{Datum, variable}
+use Rattle.variables.specs.Variables.{Datum}
 use Rattle.order.specs.Places.{words_at}
 use Rattle.order.proofs.Named.{length-names_at}
 use Rattle.shown.specs.Shown.{counts, values_of}

@@ -1,24 +1,14 @@
 -- `show_counts` meets its contract: after k turns the lines of the first k variables are written and their values counted. Assumes nothing.
-use mathlib.Core.Path.{◌≡◌, refl, sym, ap, ap₂, subst, ◌∙◌}
+use mathlib.Core.Path.{◌≡◌}
 use mathlib.Core.List.{List}
-use Prim.Native.Nat.{ℕ, ◌+◌, ◌-◌, ◌≤◌, ◌<◌}
-use native.Mathlib.Omega.{arith}
-use lib.ListN.{length, take, get_or, length-append}
-use lib.Seq.{take_all}
-use Rattle.words.specs.Placed.{Room, Writes}
-use Rattle.words.proofs.Placed.{writes-length}
-use Rattle.names.specs.Names.{unpacked}
+use Prim.Native.Nat.{ℕ, ◌-◌}
+use lib.ListN.{length, take}
+use Rattle.words.specs.Placed.{Writes}
 use Rattle.layout.specs.State.{flat}
-use Rattle.layout.specs.Memory.{name_words, decode}
-use Rattle.layout.proofs.Sound.{Sound, sound-of}
+use Rattle.layout.specs.Memory.{decode}
 use Rattle.variables.specs.Variables.{Datum, variable}
-use Rattle.order.specs.Places.{words_at}
-use Rattle.order.proofs.Named.{length-names_at}
-use Rattle.shown.specs.Shown.{counts, values_of}
-use Rattle.shown.specs.Shows.{line, size, listed, Adding, Adds, Counting, Counts}
+use Rattle.shown.specs.Shows.{line, listed}
 use Rattle.shown.specs.declared.Ends.{Ends}
-use Rattle.shown.proofs.Writing.{writes-none, writes-all, room_next, writes-next, flat-next, flat-within}
-use Rattle.shown.proofs.Held.{first, place-named, within-listed, holding, name-listed}
 use Rattle.shown.proofs.show_counts.Given as goal
 
 -- a variable's values

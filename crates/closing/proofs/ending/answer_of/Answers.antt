@@ -2,7 +2,6 @@
 use borrow.Author.Tests.{lt-ltb, le-ltb}
 use mathlib.Core.Path.{◌∙◌}
 use Rattle.closing.proofs.Closing.{found-long, too_long, lasts-short, ends_as}
-use borrow.Author.Rules.{rules}
 use Rattle.closing.proofs.ending.answer_of.Goals as goal
 
 pub returns-then-b-gt-MOST : goal.returns-then-b-gt-MOST

@@ -1,5 +1,4 @@
 -- `at_end` meets its contract: each reader is one of its cases. Assumes nothing.
-use borrow.Author.Rules.{rules}
 use Rattle.closing.proofs.ending.at_end.Goals as goal
 
 pub returns-in-Text : goal.returns-in-Text

@@ -1,5 +1,4 @@
 -- `by_room` meets its contract: each answer is one of its cases. Assumes nothing.
-use borrow.Author.Rules.{rules}
 use Rattle.closing.proofs.ending.by_room.Goals as goal
 
 pub returns : goal.returns

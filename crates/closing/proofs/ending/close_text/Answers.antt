@@ -1,11 +1,9 @@
 -- `close_text` meets its contract: 15 and 8 first, and then the text is found and concluded. Assumes nothing.
 use native.Mathlib.Omega.{arith}
 use mathlib.Core.Path.{sym, ◌∙◌}
-use borrow.Author.Tests.{not-true, not-false}
 use Rattle.layout.proofs.Sound.{sound-of}
 use Rattle.intake.proofs.Finding.{opened_of}
 use Rattle.closing.proofs.Closing.{close-damaged, close-shut}
-use borrow.Author.Rules.{rules}
 use Rattle.closing.proofs.ending.close_text.Goals as goal
 
 pub returns-then-not-is_sound : goal.returns-then-not-is_sound

@@ -1,7 +1,6 @@
 -- `conclude` meets its contract: the answer is that of the text at its end, and by it the text is held or shut. Assumes nothing.
 use mathlib.Core.Path.{sym, ◌∙◌}
 use Rattle.closing.proofs.Closing.{close-refused, close-done}
-use borrow.Author.Rules.{rules}
 use Rattle.closing.proofs.ending.conclude.Goals as goal
 
 pub hold-requires : goal.hold-requires

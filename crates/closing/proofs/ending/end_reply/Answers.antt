@@ -2,7 +2,6 @@
 use native.Mathlib.Omega.{arith}
 use Rattle.words.proofs.Each.{words_of}
 use Rattle.closing.proofs.Closing.{faulted-place, stored-end}
-use borrow.Author.Rules.{rules}
 use Rattle.closing.proofs.ending.end_reply.Goals as goal
 
 pub overflow_add-result : goal.overflow_add-result

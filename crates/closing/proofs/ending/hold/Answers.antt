@@ -3,7 +3,6 @@ use native.Mathlib.Omega.{arith}
 use Rattle.words.proofs.Each.{words_of}
 use Rattle.intake.proofs.Stowing.{label-short}
 use Rattle.closing.proofs.Closing.{sealable, sealed-put}
-use borrow.Author.Rules.{rules}
 use Rattle.closing.proofs.ending.hold.Goals as goal
 
 pub seal-requires : goal.seal-requires

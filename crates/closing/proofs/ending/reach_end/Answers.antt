@@ -1,6 +1,5 @@
 -- `reach_end` meets its contract: the last line is what was kept, with a CR that came last; none, or one more line. Assumes nothing.
 use Rattle.closing.proofs.Closing.{line-within, lasts-none, lasts-some}
-use borrow.Author.Rules.{rules}
 use Rattle.closing.proofs.ending.reach_end.Goals as goal
 
 pub returns-then-used-eq0 : goal.returns-then-used-eq0

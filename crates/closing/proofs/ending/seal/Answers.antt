@@ -3,7 +3,6 @@ use native.Mathlib.Omega.{arith}
 use mathlib.Core.Path.{ap, ◌∙◌}
 use Rattle.words.specs.Over.{over}
 use Rattle.closing.proofs.Closing.{framed}
-use borrow.Author.Rules.{rules}
 use Rattle.closing.proofs.ending.seal.Goals as goal
 
 pub bounds-pool-0 : goal.bounds-pool-0

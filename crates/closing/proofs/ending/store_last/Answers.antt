@@ -1,6 +1,5 @@
 -- `store_last` meets its contract: without a last line all is stored; else that line is completed as any other. Assumes nothing.
 use Rattle.closing.proofs.Closing.{line-within, stores-none, stores_some}
-use borrow.Author.Rules.{rules}
 use Rattle.closing.proofs.ending.store_last.Goals as goal
 
 pub returns-then-used-eq0 : goal.returns-then-used-eq0

@@ -1,7 +1,5 @@
 -- `position` meets its contract: each way out is one of its cases, and the meridian that is given is in the turn. Assumes nothing.
 use mathlib.Core.Path.{sym, ◌∙◌}
-use borrow.Author.Rules.{rules}
-use borrow.Author.Tests.{not-true, not-false}
 use Rattle.promises.proofs.Given.{in-range}
 use Rattle.drive.proofs.Answers.{place-no-ring, place-refused, place_at}
 use Rattle.drive.proofs.calls.position.Goals as goal

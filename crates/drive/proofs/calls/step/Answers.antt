@@ -1,7 +1,5 @@
 -- `step` meets its contract: each way out is one of its cases; the target is the position, and the move leads there. Assumes nothing.
 use mathlib.Core.Path.{sym, ◌∙◌}
-use borrow.Author.Rules.{rules}
-use borrow.Author.Tests.{not-true, not-false}
 use mir.Syntax.{w32}
 use mir.ValLaws.{to_z-of_z}
 use Rattle.drive.proofs.Positions.{bounds}

@@ -5,7 +5,7 @@ use native.Mathlib.Omega.{arith}
 use lib.Ieee.{Float, binary64, of_bits, of_int, round, le}
 use Rattle.plain.specs.Doubles.{◌⊗◌, ◌⊘◌}
 use Rattle.drive.specs.Ring.{double, spacing, angle_at, reached}
-use Rattle.drive.proofs.Positions.{bounds, Between, whole-ring, lower, raise, found}
+use Rattle.drive.proofs.Positions.{bounds, whole-ring, lower, raise, found}
 use Rattle.drive.proofs.ring.position_on.Goals as goal
 
 -- 360 as the code writes it

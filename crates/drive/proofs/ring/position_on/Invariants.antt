@@ -1,11 +1,6 @@
 -- `position_on` meets its contract: the position stays between the two ends, which come together. Assumes nothing.
-use Prim.Native.Nat.{ℕ, ◌-◌}
-use mathlib.Core.Path.{◌≡◌, refl, ap, ◌∙◌}
-use native.Mathlib.Omega.{arith}
-use lib.Ieee.{Float, binary64, of_bits, of_int, round, le}
-use Rattle.plain.specs.Doubles.{◌⊗◌, ◌⊘◌}
-use Rattle.drive.specs.Ring.{double, spacing, angle_at, reached}
-use Rattle.drive.proofs.Positions.{bounds, Between, whole-ring, lower, raise, found}
+use Prim.Native.Nat.{◌-◌}
+use Rattle.drive.proofs.Positions.{Between}
 use Rattle.drive.proofs.ring.position_on.Given as goal
 
 abbrev pub invariant-loop-low : goal.invariant-loop-low

@@ -1,5 +1,4 @@
 -- `go_ahead` meets its contract: its test is that of `ahead`. Assumes nothing.
-use borrow.Author.Rules.{rules}
 use borrow.Author.Tests.{le-leb, lt-leb}
 use Rattle.drive.proofs.way.go_ahead.Goals as goal
 

@@ -3,7 +3,6 @@ use Prim.Native.Nat.{◌+◌, ◌-◌}
 use native.Mathlib.Omega.{arith}
 use Rattle.bookmark.specs.declared.mark.Standing.TheVariants as S
 use Rattle.entering.proofs.Numbers.{places-most}
-use borrow.Author.Rules.{rules}
 use Rattle.entering.proofs.counts.grown.Goals as goal
 
 pub overflow_add-result-3 : goal.overflow_add-result-3

@@ -3,7 +3,6 @@ use native.Mathlib.Omega.{arith}
 use mathlib.Core.Path.{sym}
 use Rattle.plain.proofs.Tests.{is_false}
 use Rattle.entering.proofs.Numbers.{roomed-of, last-limit}
-use borrow.Author.Rules.{rules}
 use Rattle.entering.proofs.counts.has_room.Goals as goal
 
 pub returns-then-pool-sums-gt-STATEMENTS : goal.returns-then-pool-sums-gt-STATEMENTS

@@ -1,5 +1,4 @@
 -- `read_on` meets its contract: each way out is one of the answer's. Assumes nothing.
-use borrow.Author.Rules.{rules}
 use Rattle.entering.proofs.counts.read_on.Goals as goal
 
 pub returns-in-Next : goal.returns-in-Next

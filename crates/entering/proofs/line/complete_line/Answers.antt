@@ -1,5 +1,4 @@
 -- `complete_line` meets its contract: what the line was seen to add is written. Assumes nothing.
-use borrow.Author.Rules.{rules}
 use Rattle.entering.proofs.Looking.{unwritten, written}
 use Rattle.entering.proofs.line.complete_line.Goals as goal
 

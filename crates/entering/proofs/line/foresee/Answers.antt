@@ -1,5 +1,4 @@
 -- `foresee` meets its contract: what the line was seen to make of the text is what completing it makes. Assumes nothing.
-use borrow.Author.Rules.{rules}
 use Rattle.entering.proofs.Looking.{foreseen-unwritten, foreseen-written}
 use Rattle.entering.proofs.line.foresee.Goals as goal
 

@@ -1,6 +1,5 @@
 -- `look` meets its contract: each way in which the text stands is one of the definition's. Assumes nothing.
 use Rattle.entering.proofs.Completing.{stays-faulted, reads_on}
-use borrow.Author.Rules.{rules}
 use Rattle.entering.proofs.line.look.Goals as goal
 
 pub returns-in-Overflowed : goal.returns-in-Overflowed

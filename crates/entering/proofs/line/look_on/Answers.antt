@@ -1,7 +1,6 @@
 -- `look_on` meets its contract: what a line without a fault adds is summed up, and a fault ends what is stored. Assumes nothing.
 use Rattle.entering.proofs.Numbers.{steps_of, fault-of}
 use Rattle.entering.proofs.Completing.{stops}
-use borrow.Author.Rules.{rules}
 use Rattle.entering.proofs.line.look_on.Goals as goal
 
 pub sum_up-requires : goal.sum_up-requires

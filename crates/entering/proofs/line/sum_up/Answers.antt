@@ -1,8 +1,6 @@
 -- `sum_up` meets its contract: the sums are of the statements with what the line adds, which are stored where these fit. Assumes nothing.
 use native.Mathlib.Omega.{arith}
-use borrow.Author.Tests.{not-true, not-false}
 use Rattle.entering.proofs.Adding.{countable, framed, few, overflowing, storing, nothing-added, to_write}
-use borrow.Author.Rules.{rules}
 use Rattle.entering.proofs.line.sum_up.Goals as goal
 
 pub grown-sums-requires : goal.grown-sums-requires

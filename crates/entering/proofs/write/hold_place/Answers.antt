@@ -3,7 +3,6 @@ use native.Mathlib.Omega.{arith}
 use mathlib.Core.Path.{ap, ◌∙◌}
 use mathlib.Core.Bool.{false}
 use Rattle.page.specs.Writing.{Page, stored_all, told_on}
-use borrow.Author.Rules.{rules}
 use Rattle.entering.proofs.write.hold_place.Goals as goal
 
 pub tell-requires : goal.tell-requires

@@ -2,7 +2,6 @@
 use native.Mathlib.Omega.{arith}
 use mathlib.Core.Path.{ap}
 use Rattle.entering.specs.Counts.{places}
-use borrow.Author.Rules.{rules}
 use Rattle.entering.proofs.write.last_head.Goals as goal
 
 pub overflow_sub-result-in-List : goal.overflow_sub-result-in-List

@@ -3,7 +3,6 @@ use native.Mathlib.Omega.{arith}
 use mathlib.Core.Path.{ap}
 use Rattle.page.specs.declared.pen.Pen.{Pen}
 use Rattle.entering.proofs.Numbers.{pen-found}
-use borrow.Author.Rules.{rules}
 use Rattle.entering.proofs.write.pen_at.Goals as goal
 
 pub last_head-requires : goal.last_head-requires

@@ -1,7 +1,6 @@
 -- `write_added` meets its contract: what is written with the pen, and the place held behind it, is what the line adds, laid. Assumes nothing.
 use Rattle.entering.proofs.Lines.{ordered}
 use Rattle.entering.proofs.Adding.{found, writable, can-place, lays-place, lays-some}
-use borrow.Author.Rules.{rules}
 use Rattle.entering.proofs.write.write_added.Goals as goal
 
 pub pen_at-pen-requires : goal.pen_at-pen-requires

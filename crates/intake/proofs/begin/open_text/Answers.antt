@@ -1,8 +1,6 @@
 -- `open_text` meets its contract: each question in its order, and then the words of a text of which nothing came are written. Assumes nothing.
 use native.Mathlib.Omega.{arith}
-use mathlib.Core.Path.{◌≡◌, sym, ◌∙◌}
-use borrow.Author.Tests.{not-true, not-false}
-use borrow.Author.Rules.{rules}
+use mathlib.Core.Path.{sym, ◌∙◌}
 use Rattle.layout.proofs.Sound.{sound-of}
 use Rattle.intake.proofs.Answers.{open-damaged, open-second, open-held, open_done}
 use Rattle.intake.proofs.Stowing.{stowable-begun, begun-stowed}

@@ -1,8 +1,6 @@
 -- `drop_text` meets its contract: each question in its order, and then one word is written. Assumes nothing.
 use native.Mathlib.Omega.{arith}
 use mathlib.Core.Path.{sym, ◌∙◌}
-use borrow.Author.Rules.{rules}
-use borrow.Author.Tests.{not-true, not-false}
 use Rattle.layout.proofs.Sound.{sound-of}
 use Rattle.intake.proofs.Answers.{drop-damaged, drop-shut, drop-done}
 use Rattle.intake.proofs.parts.drop_text.Goals as goal

@@ -1,8 +1,6 @@
 -- `feed_text` meets its contract: each question in its order, and then the open text is found, fed and written back. Assumes nothing.
 use native.Mathlib.Omega.{arith}
-use mathlib.Core.Path.{◌≡◌, sym, ◌∙◌}
-use borrow.Author.Tests.{not-true, not-false}
-use borrow.Author.Rules.{rules}
+use mathlib.Core.Path.{sym, ◌∙◌}
 use Rattle.layout.proofs.Sound.{sound-of}
 use Rattle.intake.proofs.Answers.{feed-damaged, feed-shut, feed-done}
 use Rattle.intake.proofs.Finding.{behind-of, opened_of}

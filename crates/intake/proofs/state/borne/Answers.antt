@@ -1,7 +1,5 @@
 -- `borne` meets its contract: only a text that is stored so far has a reader to be borne out. Assumes nothing.
-use borrow.Author.Rules.{rules}
 use Rattle.intake.proofs.Bearing.{borne-storing, borne-overflowed, borne-faulted}
-use borrow.Author.Rules.{rules}
 use Rattle.layout.specs.Memory.{open_body}
 use Rattle.intake.proofs.state.borne.Goals as goal
 

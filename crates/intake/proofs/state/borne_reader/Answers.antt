@@ -2,9 +2,7 @@
 use native.Mathlib.Omega.{arith}
 use mathlib.Core.Path.{refl, ◌∙◌}
 use Rattle.words.proofs.Each.{words_of}
-use borrow.Author.Rules.{rules}
 use Rattle.intake.proofs.Lasting.{none-borne, strings-borne, many-borne, one-borne}
-use borrow.Author.Rules.{rules}
 use Rattle.intake.proofs.state.borne_reader.Goals as goal
 
 pub returns-then-entered-eq0 : goal.returns-then-entered-eq0

@@ -2,7 +2,6 @@
 use native.Mathlib.Omega.{arith}
 use mathlib.Core.Path.{refl}
 use Rattle.words.proofs.Each.{words_of}
-use borrow.Author.Rules.{rules}
 use Rattle.intake.proofs.Finding.{open-readable, open-counts, finds}
 use Rattle.intake.proofs.state.open_in.Goals as goal
 

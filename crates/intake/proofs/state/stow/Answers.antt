@@ -1,7 +1,5 @@
 -- `stow` meets its contract: the word, and then the thirty words. Assumes nothing.
-use borrow.Author.Rules.{rules}
 use Rattle.intake.proofs.Stowing.{stows}
-use borrow.Author.Rules.{rules}
 use Rattle.intake.proofs.state.stow.Goals as goal
 
 pub returns : goal.returns

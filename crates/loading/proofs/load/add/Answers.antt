@@ -1,6 +1,5 @@
 -- `add` meets its contract: the text's word, what the text adds and the front make the state with one text more. Assumes nothing.
 use native.Mathlib.Omega.{arith}
-use borrow.Author.Rules.{rules}
 use Rattle.words.proofs.Each.{words_of}
 use Rattle.layout.proofs.Sound.{sound-of}
 use Rattle.loading.proofs.Adding.{leaves, admits, sized, added-put}

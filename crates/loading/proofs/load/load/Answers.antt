@@ -1,15 +1,7 @@
 -- `load` meets its contract: each test in its order, and the accepted text put last. Assumes nothing.
-use Prim.Native.Nat.{ℕ}
-use mathlib.Core.Path.{◌≡◌, sym, ◌∙◌}
-use mathlib.Core.Bool.{true, false}
-use mathlib.Core.List.{List}
+use mathlib.Core.Path.{sym, ◌∙◌}
 use native.Mathlib.Omega.{arith}
-use borrow.Author.Rules.{rules}
-use borrow.Author.Tests.{not-true, not-false}
-use Rattle.layout.specs.Memory.{decode, opens}
-use Rattle.layout.specs.Damage.{sound}
 use Rattle.layout.proofs.Sound.{sound-of}
-use Rattle.pool.specs.Held.{held}
 use Rattle.loading.proofs.Loading.{text-counted, damaged, text-open, label-held, too_long, faulty, no_room, accepts, done, place-fits}
 use Rattle.loading.proofs.load.load.Goals as goal
 

@@ -1,6 +1,5 @@
 -- `bytes_of` meets its contract: each byte is the last one of a quotient. Assumes nothing.
 use mathlib.Core.List.{[], ◌∷◌}
-use borrow.Author.Rules.{rules}
 use Rattle.order.proofs.in_words.bytes_of.Goals as goal
 
 pub returns : goal.returns

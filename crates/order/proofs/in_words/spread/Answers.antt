@@ -44,13 +44,12 @@ append-requires c =
     (omega (arith, c.requires, c.loop-i.invariant.1))
 
 pub loop-i-preserved : goal.loop-i-preserved
-loop-i-preserved c =
-    (
-      omega arith,
-      writes-length c.append.ensures ∙ c.loop-i.invariant.1,
-      fewer c.args.words.now c.loop-i.i c.loop-i-test.true c.loop-i.room c.bytes_of-eight.result c.bytes_of-eight.ensures _ _ c.append.ensures
-          ∙ c.loop-i.invariant.2,
-    )
+loop-i-preserved c = (
+  omega arith,
+  writes-length c.append.ensures ∙ c.loop-i.invariant.1,
+  fewer c.args.words.now c.loop-i.i c.loop-i-test.true c.loop-i.room c.bytes_of-eight.result c.bytes_of-eight.ensures _ _ c.append.ensures
+      ∙ c.loop-i.invariant.2,
+)
 
 pub shape_of-room : goal.shape_of-room
 shape_of-room c = c.loop-i.invariant.1

@@ -1,9 +1,7 @@
 -- `stands_before` meets its contract: what is left to compare decides as all do. Assumes nothing.
-use mathlib.Core.Path.{◌≡◌, refl, ◌∙◌}
-use Prim.Native.Nat.{◌≤◌, ◌-◌}
+use mathlib.Core.Path.{refl, ◌∙◌}
+use Prim.Native.Nat.{◌-◌}
 use native.Mathlib.Omega.{arith}
-use lib.ListN.{length, drop}
-use Rattle.order.specs.Order.{before}
 use Rattle.order.proofs.Before.{before-next, before-stop, before-end}
 use Rattle.order.proofs.in_words.stands_before.Goals as goal
 

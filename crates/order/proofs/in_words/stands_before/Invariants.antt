@@ -1,10 +1,8 @@
 -- `stands_before` meets its contract: what is left to compare decides as all do. Assumes nothing.
-use mathlib.Core.Path.{◌≡◌, refl, ◌∙◌}
+use mathlib.Core.Path.{◌≡◌}
 use Prim.Native.Nat.{◌≤◌, ◌-◌}
-use native.Mathlib.Omega.{arith}
 use lib.ListN.{length, drop}
 use Rattle.order.specs.Order.{before}
-use Rattle.order.proofs.Before.{before-next, before-stop, before-end}
 use Rattle.order.proofs.in_words.stands_before.Given as goal
 
 abbrev pub invariant-loop-i : goal.invariant-loop-i

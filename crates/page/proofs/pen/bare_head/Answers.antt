@@ -1,5 +1,4 @@
 -- `bare_head` meets its contract: either operator's number above 2^32, and no values. Assumes nothing.
-use borrow.Author.Rules.{rules}
 use Rattle.page.proofs.pen.bare_head.Goals as goal
 
 pub returns-in-Direct : goal.returns-in-Direct

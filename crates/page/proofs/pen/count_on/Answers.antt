@@ -1,6 +1,5 @@
 -- `count_on` meets its contract: each way out is one case of `counting`. Assumes nothing.
 use native.Mathlib.Omega.{arith}
-use borrow.Author.Rules.{rules}
 use borrow.Author.Tests.{lt-ltb, le-ltb}
 use Rattle.page.proofs.pen.count_on.Goals as goal
 

@@ -1,5 +1,4 @@
 -- `open_statement` meets its contract: the name's words and the bare head are stored where the pen stands. Assumes nothing.
-use borrow.Author.Rules.{rules}
 use Rattle.page.specs.Writing.{opened_on}
 use Rattle.page.proofs.pen.open_statement.Goals as goal
 

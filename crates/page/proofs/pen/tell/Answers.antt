@@ -1,5 +1,4 @@
 -- `tell` meets its contract: either way out is one case of `told_on`. Assumes nothing.
-use borrow.Author.Rules.{rules}
 use borrow.Author.Tests.{eq-eqb, ne_eqb}
 use Rattle.page.specs.Writing.{told_on}
 use Rattle.page.proofs.pen.tell.Goals as goal

@@ -1,5 +1,4 @@
 -- `write_name` meets its contract: four words stored one after the other are the name's words written over. Assumes nothing.
-use borrow.Author.Rules.{rules}
 use Rattle.page.proofs.Pages.{name-stored}
 use Rattle.page.proofs.pen.write_name.Goals as goal
 

@@ -1,5 +1,4 @@
 -- `store_number` meets its contract: the number's bits are stored where the pen stands. Assumes nothing.
-use borrow.Author.Rules.{rules}
 use Rattle.page.proofs.store.store_number.Goals as goal
 
 pub returns : goal.returns

@@ -1,5 +1,4 @@
 -- `store_string` meets its contract: the string's bytes and its length are stored where the pen stands. Assumes nothing.
-use borrow.Author.Rules.{rules}
 use Rattle.page.proofs.store.store_string.Goals as goal
 
 pub returns : goal.returns

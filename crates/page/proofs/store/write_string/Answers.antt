@@ -3,11 +3,9 @@ use Prim.Native.Nat.{◌-◌}
 use native.Mathlib.Omega.{arith}
 use mathlib.Core.Path.{refl}
 use borrow.Author.Tests.{eq-eqb, ne_eqb}
-use lib.ListN.{drop}
 use Rattle.plain.specs.Bytes.{QUOTE}
-use Rattle.value.specs.Strings.{undoubled}
 use Rattle.words.proofs.Each.{words_of}
-use Rattle.page.proofs.Copying.{Copying, at_first, reads, one_more, at_last}
+use Rattle.page.proofs.Copying.{at_first, reads, one_more, at_last}
 use Rattle.page.proofs.store.write_string.Goals as goal
 
 pub overflow_add-k : goal.overflow_add-k

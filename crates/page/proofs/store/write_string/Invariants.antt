@@ -1,13 +1,8 @@
 -- `write_string` meets its contract: the bytes written so far and those left in the line are all of the string. Assumes nothing.
 use Prim.Native.Nat.{◌-◌}
-use native.Mathlib.Omega.{arith}
-use mathlib.Core.Path.{refl}
-use borrow.Author.Tests.{eq-eqb, ne_eqb}
 use lib.ListN.{drop}
-use Rattle.plain.specs.Bytes.{QUOTE}
 use Rattle.value.specs.Strings.{undoubled}
-use Rattle.words.proofs.Each.{words_of}
-use Rattle.page.proofs.Copying.{Copying, at_first, reads, one_more, at_last}
+use Rattle.page.proofs.Copying.{Copying}
 use Rattle.page.proofs.store.write_string.Given as goal
 
 abbrev pub invariant-loop-j : goal.invariant-loop-j

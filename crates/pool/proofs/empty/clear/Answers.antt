@@ -1,11 +1,6 @@
 -- `clear` meets its contract: damage is asked first, then whether a text is open, and then nothing is held. Assumes nothing.
-use mathlib.Core.Path.{◌≡◌, sym, ◌∙◌}
-use mathlib.Core.Bool.{true}
+use mathlib.Core.Path.{sym, ◌∙◌}
 use native.Mathlib.Omega.{arith}
-use borrow.Author.Rules.{rules}
-use borrow.Author.Tests.{not-true, not-false}
-use Rattle.layout.specs.Memory.{opens}
-use Rattle.layout.specs.Damage.{sound}
 use Rattle.layout.proofs.Sound.{sound-of}
 use Rattle.pool.proofs.Emptying.{clear-refused, clear-open, clear-done}
 use Rattle.pool.proofs.empty.clear.Goals as goal

@@ -1,6 +1,5 @@
 -- `hold_nothing` meets its contract: putting no texts writes the front alone. Assumes nothing.
 use mathlib.Core.Path.{sym, ◌∙◌}
-use borrow.Author.Rules.{rules}
 use Rattle.words.proofs.Each.{words_of}
 use Rattle.pool.proofs.Emptying.{put-none}
 use Rattle.pool.proofs.empty.hold_nothing.Goals as goal

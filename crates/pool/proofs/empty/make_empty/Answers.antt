@@ -1,5 +1,4 @@
 -- `make_empty` meets its contract: the size decides, and then nothing is held. Assumes nothing.
-use borrow.Author.Rules.{rules}
 use Rattle.pool.proofs.Emptying.{empty-refused, empty-done}
 use Rattle.pool.proofs.empty.make_empty.Goals as goal
 

@@ -1,6 +1,5 @@
 -- `answer` meets its contract: each case of what is found is one of the answer. Assumes nothing.
 use mathlib.Core.Path.{sym, ap}
-use borrow.Author.Rules.{rules}
 use Rattle.pool.specs.Fetch.{fetched}
 use Rattle.pool.proofs.fetch.answer.Goals as goal
 

@@ -1,7 +1,5 @@
 -- `fetch_string` meets its contract: a damaged pool is refused, and otherwise what is found is answered. Assumes nothing.
 use mathlib.Core.Path.{sym, ◌∙◌}
-use borrow.Author.Rules.{rules}
-use borrow.Author.Tests.{not-true, not-false}
 use Rattle.pool.proofs.Fetching.{string-damaged, string-found}
 use Rattle.pool.proofs.fetch_string.fetch_string.Goals as goal
 

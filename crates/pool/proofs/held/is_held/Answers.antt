@@ -1,5 +1,4 @@
 -- `is_held` meets its contract: the label is found among the texts' words exactly when it is held. Assumes nothing.
-use borrow.Author.Rules.{rules}
 use Rattle.pool.proofs.Labels.{held-placed}
 use Rattle.pool.proofs.held.is_held.Goals as goal
 

@@ -1,17 +1,11 @@
 -- `remove` meets its contract: damage is asked first, then whether a text is open, then whether the label has a place, and then its text is taken
 -- out. Assumes nothing.
-use mathlib.Core.Path.{◌≡◌, sym, ap, subst, ◌∙◌}
-use mathlib.Core.Bool.{true, false}
-use mathlib.Core.List.{List}
+use mathlib.Core.Path.{sym, ap, subst, ◌∙◌}
 use Prim.Native.Nat.{ℕ}
 use native.Mathlib.Omega.{arith}
-use borrow.Author.Rules.{rules}
-use borrow.Author.Tests.{not-true, not-false}
 use Rattle.words.specs.Halves.{place}
-use Rattle.words.proofs.Each.{Words, words_of}
-use Rattle.layout.specs.Memory.{text_words, opens}
-use Rattle.layout.specs.Damage.{sound}
-use Rattle.layout.proofs.Sound.{Sound, sound-of}
+use Rattle.words.proofs.Each.{words_of}
+use Rattle.layout.proofs.Sound.{sound-of}
 use Rattle.removing.specs.Gaps.{Gapped, taken_out}
 use Rattle.pool.proofs.Removing.{remove-refused, remove-open, remove-missing, remove-done, gapped-here}
 use Rattle.pool.proofs.remove.remove.Goals as goal

@@ -1,14 +1,6 @@
 -- `totals` meets its contract: the totals' words of an undamaged memory are the counts. Assumes nothing.
-use mathlib.Core.Path.{◌≡◌, sym, ◌∙◌}
-use mathlib.Core.Bool.{true}
-use mathlib.Core.List.{List}
-use Prim.Native.Nat.{ℕ}
+use mathlib.Core.Path.{sym, ◌∙◌}
 use native.Mathlib.Omega.{arith}
-use borrow.Author.Rules.{rules}
-use borrow.Author.Tests.{not-true, not-false}
-use lib.ListN.{length}
-use Rattle.layout.specs.Limits.{WORDS}
-use Rattle.layout.specs.Damage.{sound}
 use Rattle.layout.proofs.Sound.{sound-of}
 use Rattle.pool.proofs.Tallying.{totals-refused, totals-held}
 use Rattle.pool.proofs.totals.totals.Goals as goal

@@ -4,7 +4,6 @@ use mathlib.Core.Path.{◌≡◌, ap, ap₂, ◌∙◌}
 use mathlib.Core.List.{List}
 use Prim.Native.Nat.{ℕ, ◌+◌, ◌-◌, ◌≤◌}
 use native.Mathlib.Omega.{arith}
-use borrow.Author.Rules.{rules}
 use lib.ListN.{length, take, drop, length-drop}
 use Rattle.words.specs.Halves.{sum}
 use Rattle.words.specs.Over.{part}
@@ -13,7 +12,7 @@ use Rattle.layout.specs.Limits.{HEADS_AT}
 use Rattle.layout.specs.Memory.{value_count, byte_count, value_words}
 use Rattle.layout.specs.Damage.{Counted, total_bytes}
 use Rattle.layout.proofs.Areas.{length-values}
-use Rattle.removing.specs.Gaps.{values_before, bytes_before, bytes_inside, Spanned}
+use Rattle.removing.specs.Gaps.{values_before, Spanned}
 use Rattle.removing.specs.declared.gap.Gap.{Gap}
 use Rattle.removing.proofs.gap.byte_gap.Goals as goal
 

@@ -3,7 +3,6 @@ use mathlib.Core.Path.{◌≡◌, ap, ap₂, ◌∙◌}
 use mathlib.Core.List.{List}
 use Prim.Native.Nat.{ℕ}
 use native.Mathlib.Omega.{arith}
-use borrow.Author.Rules.{rules}
 use Rattle.layout.specs.Limits.{TEXTS_AT, HEADS_AT, NAMES_AT, VALUES_AT}
 use Rattle.removing.specs.Gaps.{closing, closing_bytes, fourfold, whole, closed}
 use Rattle.removing.specs.declared.gap.Gap.{Gap}

@@ -1,6 +1,5 @@
 -- `statement_gap` meets its contract: the statements before the text are the sum of the texts' numbers before it. Assumes nothing.
 use Prim.Native.Nat.{◌-◌}
-use borrow.Author.Rules.{rules}
 use Rattle.layout.specs.Memory.{statement_count}
 use Rattle.removing.specs.Gaps.{statements_inside}
 use Rattle.removing.proofs.gap.statement_gap.Goals as goal

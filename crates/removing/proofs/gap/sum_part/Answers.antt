@@ -1,7 +1,6 @@
 -- `sum_part` meets its contract: the part is lent, and summed. Assumes nothing.
 use mathlib.Core.Path.{ap, ◌∙◌}
 use native.Mathlib.Omega.{arith}
-use borrow.Author.Rules.{rules}
 use lib.ListN.{length}
 use Rattle.words.specs.Halves.{sum}
 use Rattle.layout.proofs.Areas.{length_part}

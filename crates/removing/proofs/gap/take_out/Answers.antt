@@ -3,7 +3,6 @@ use mathlib.Core.Path.{◌≡◌, sym, ap, subst, ◌∙◌}
 use mathlib.Core.List.{List, [], ◌∷◌}
 use Prim.Native.Nat.{ℕ}
 use native.Mathlib.Omega.{arith}
-use borrow.Author.Rules.{rules}
 use Rattle.words.specs.Over.{over}
 use Rattle.layout.specs.Memory.{NONE_OPEN}
 use Rattle.removing.specs.Gaps.{text_gap, statement_gap, value_gap, byte_gap, left, closed, taken_out, Spanned, Gapped, Closes}

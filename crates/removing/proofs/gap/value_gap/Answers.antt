@@ -1,6 +1,5 @@
 -- `value_gap` meets its contract: the values before the statements, and of them, are sums of the heads' numbers. Assumes nothing.
 use Prim.Native.Nat.{◌-◌}
-use borrow.Author.Rules.{rules}
 use Rattle.layout.specs.Memory.{value_count}
 use Rattle.removing.proofs.gap.value_gap.Goals as goal
 

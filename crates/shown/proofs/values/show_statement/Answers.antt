@@ -1,5 +1,4 @@
 -- `show_statement` meets its contract: the kind decides whether the words are numbers' bits or strings' lengths. Assumes nothing.
-use borrow.Author.Rules.{rules}
 use native.Mathlib.Omega.{arith}
 use Rattle.shown.proofs.Stated.{sized, held, words-within, before, counted, room-numbers, writes-numbers, spelling, writes-strings}
 use Rattle.shown.proofs.values.show_statement.Goals as goal

@@ -1,14 +1,11 @@
 -- `show_statements` meets its contract: the lines written and those of the statements that are left are the variable's. Assumes nothing.
-use Prim.Native.Nat.{◌-◌, ◌<◌}
+use Prim.Native.Nat.{◌-◌}
 use native.Mathlib.Omega.{arith}
-use borrow.Author.Rules.{rules}
-use lib.ListN.{length}
 use Rattle.words.proofs.Each.{words_of}
 use Rattle.words.proofs.Placed.{writes-length}
-use Rattle.layout.specs.Memory.{statement_count}
 use Rattle.layout.proofs.Sound.{sound-of}
 use Rattle.variables.proofs.Names.{Hands, length-hands, room-hands}
-use Rattle.shown.proofs.Told.{Told, told_none, told-all, values-end, told-other, told-stating, told_more}
+use Rattle.shown.proofs.Told.{told_none, told-all, values-end, told-other, told-stating, told_more}
 use Rattle.shown.proofs.values.show_statements.Goals as goal
 
 pub heads_of-heads-requires : goal.heads_of-heads-requires

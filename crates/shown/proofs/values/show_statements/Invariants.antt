@@ -1,14 +1,8 @@
 -- `show_statements` meets its contract: the lines written and those of the statements that are left are the variable's. Assumes nothing.
-use Prim.Native.Nat.{◌-◌, ◌<◌}
-use native.Mathlib.Omega.{arith}
-use borrow.Author.Rules.{rules}
+use Prim.Native.Nat.{◌-◌}
 use lib.ListN.{length}
-use Rattle.words.proofs.Each.{words_of}
-use Rattle.words.proofs.Placed.{writes-length}
-use Rattle.layout.specs.Memory.{statement_count}
-use Rattle.layout.proofs.Sound.{sound-of}
-use Rattle.variables.proofs.Names.{Hands, length-hands, room-hands}
-use Rattle.shown.proofs.Told.{Told, told_none, told-all, values-end, told-other, told-stating, told_more}
+use Rattle.variables.proofs.Names.{Hands}
+use Rattle.shown.proofs.Told.{Told}
 use Rattle.shown.proofs.values.show_statements.Given as goal
 
 abbrev pub invariant-loop-s : goal.invariant-loop-s

@@ -1,7 +1,7 @@
 -- `show_strings` meets its contract: after i turns the lines of the first i strings are written, and the next one's bytes begin where
 -- theirs end. Assumes nothing.
 use mathlib.Core.Path.{◌≡◌, sym, ap, subst, ◌∙◌}
-use mathlib.Core.List.{List, [], ◌∷◌, ◌++◌, map}
+use mathlib.Core.List.{List, [], ◌∷◌, ◌++◌}
 use Prim.Native.Nat.{ℕ, ◌+◌, ◌-◌, ◌≤◌, ◌<◌}
 use native.Mathlib.Nat.{add-zero}
 use native.Mathlib.Omega.{arith}
@@ -15,7 +15,6 @@ use Rattle.words.specs.Placed.{Room, Writes}
 use Rattle.words.proofs.Each.{all-each}
 use Rattle.words.proofs.Placed.{writes-length}
 use Rattle.octets.specs.Octets.{octets}
-use Rattle.layout.specs.State.{flat}
 use Rattle.layout.specs.Memory.{cut_strings}
 use Rattle.layout.proofs.Spelling.{many-cut}
 use Rattle.variables.specs.Variables.{Datum, string}

@@ -1,29 +1,16 @@
 -- `show_strings` meets its contract: after i turns the lines of the first i strings are written, and the next one's bytes begin where
 -- theirs end. Assumes nothing.
-use mathlib.Core.Path.{◌≡◌, sym, ap, subst, ◌∙◌}
-use mathlib.Core.List.{List, [], ◌∷◌, ◌++◌, map}
-use Prim.Native.Nat.{ℕ, ◌+◌, ◌-◌, ◌≤◌, ◌<◌}
-use native.Mathlib.Nat.{add-zero}
-use native.Mathlib.Omega.{arith}
-use lib.ListN.{length, take, drop, get_or, length-map, get_or-map}
-use lib.Seq.{drop-drop}
-use Rattle.plain.specs.Bytes.{LF}
-use Rattle.value.specs.Strings.{quoted}
-use Rattle.words.specs.Over.{part}
+use mathlib.Core.Path.{◌≡◌}
+use mathlib.Core.List.{List, map}
+use Prim.Native.Nat.{ℕ, ◌+◌, ◌-◌}
+use lib.ListN.{length, take, drop}
 use Rattle.words.specs.Halves.{sum}
-use Rattle.words.specs.Placed.{Room, Writes}
-use Rattle.words.proofs.Each.{all-each}
-use Rattle.words.proofs.Placed.{writes-length}
+use Rattle.words.specs.Placed.{Writes}
 use Rattle.octets.specs.Octets.{octets}
 use Rattle.layout.specs.State.{flat}
 use Rattle.layout.specs.Memory.{cut_strings}
-use Rattle.layout.proofs.Spelling.{many-cut}
 use Rattle.variables.specs.Variables.{Datum, string}
-use Rattle.pen.specs.Quoted.{Quoting}
-use Rattle.shown.specs.Shown.{value_line, value_lines}
-use Rattle.shown.specs.Shows.{spelt, Spelling}
-use Rattle.shown.proofs.Writing.{writes-none, writes-all, room_next, writes-next}
-use Rattle.shown.proofs.Strings.{Short, string-at, string-next, string-within}
+use Rattle.shown.specs.Shown.{value_line}
 use Rattle.shown.proofs.values.show_strings.Given as goal
 
 -- the strings as values

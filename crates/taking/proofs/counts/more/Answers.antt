@@ -1,5 +1,4 @@
 -- `more` meets its contract: its two ways out are the two choices of the definition. Assumes nothing.
-use borrow.Author.Rules.{rules}
 use borrow.Author.Tests.{lt-ltb, le-ltb}
 use Rattle.taking.proofs.counts.more.Goals as goal
 

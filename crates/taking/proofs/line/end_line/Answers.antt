@@ -1,6 +1,5 @@
 -- `end_line` meets its contract: what is kept is the line that is completed. Assumes nothing.
 use native.Mathlib.Omega.{arith}
-use borrow.Author.Rules.{rules}
 use mathlib.Core.Path.{sym}
 use Rattle.feeding.proofs.Longer.{line-long}
 use Rattle.taking.proofs.Lines.{ends-line}

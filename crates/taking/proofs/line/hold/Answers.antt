@@ -1,5 +1,4 @@
 -- `hold` meets its contract: there is no byte, or all but a CR at their end are kept. Assumes nothing.
-use borrow.Author.Rules.{rules}
 use Rattle.taking.proofs.Lines.{holds-none, holds-run}
 use Rattle.taking.proofs.line.hold.Goals as goal
 

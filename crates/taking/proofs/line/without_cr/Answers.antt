@@ -1,6 +1,5 @@
 -- `without_cr` meets its contract: there is no byte, the last one is a CR, or it is another. Assumes nothing.
 use native.Mathlib.Omega.{arith}
-use borrow.Author.Rules.{rules}
 use mathlib.Core.Path.{sym}
 use Prim.Native.Nat.{◌-◌}
 use lib.ListN.{length}

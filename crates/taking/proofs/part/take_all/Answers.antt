@@ -7,7 +7,6 @@ use lib.ListN.{length, length-drop}
 use lib.Seq.{length-take-le}
 use Rattle.taking.proofs.Lines.{first-within, unbroken-run}
 use Rattle.taking.proofs.Taking.{from_place, takes-held, takes-lines}
-use borrow.Author.Rules.{rules}
 use Rattle.taking.proofs.part.take_all.Goals as goal
 
 pub slice_bounds-hold-end : goal.slice_bounds-hold-end

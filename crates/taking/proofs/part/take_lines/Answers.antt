@@ -2,13 +2,9 @@
 -- Assumes nothing.
 use Prim.Native.Nat.{◌-◌}
 use native.Mathlib.Omega.{arith}
-use mathlib.Core.Path.{◌≡◌, refl, ◌∙◌}
-use borrow.Author.Rules.{rules}
-use lib.ListN.{length}
-use Rattle.plain.specs.Runs.{past}
+use mathlib.Core.Path.{refl, ◌∙◌}
 use Rattle.plain.proofs.Places.{past_after}
 use Rattle.value.specs.Classes.{line_byte}
-use Rattle.taking.specs.Taking.{Reaches}
 use Rattle.taking.proofs.Lines.{unbroken-rest, reaches-none, reaches-line}
 use Rattle.taking.proofs.part.take_lines.Goals as goal
 

@@ -1,15 +1,11 @@
 -- `take_lines` meets its contract: after each turn one whole line more is fed, and where no LF is left, only bytes of one line are.
 -- Assumes nothing.
 use Prim.Native.Nat.{◌-◌}
-use native.Mathlib.Omega.{arith}
-use mathlib.Core.Path.{◌≡◌, refl, ◌∙◌}
-use borrow.Author.Rules.{rules}
+use mathlib.Core.Path.{◌≡◌}
 use lib.ListN.{length}
 use Rattle.plain.specs.Runs.{past}
-use Rattle.plain.proofs.Places.{past_after}
 use Rattle.value.specs.Classes.{line_byte}
 use Rattle.taking.specs.Taking.{Reaches}
-use Rattle.taking.proofs.Lines.{unbroken-rest, reaches-none, reaches-line}
 use Rattle.taking.proofs.part.take_lines.Given as goal
 
 abbrev pub invariant-loop-end : goal.invariant-loop-end

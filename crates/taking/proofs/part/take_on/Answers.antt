@@ -3,7 +3,6 @@ use native.Mathlib.Omega.{arith}
 use mathlib.Core.Path.{ap}
 use lib.ListN.{length, length-drop}
 use Rattle.taking.proofs.Taking.{from_place, takes-on}
-use borrow.Author.Rules.{rules}
 use Rattle.taking.proofs.part.take_on.Goals as goal
 
 pub hold-requires : goal.hold-requires

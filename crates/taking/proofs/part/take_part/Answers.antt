@@ -4,7 +4,6 @@ use native.Mathlib.Omega.{arith}
 use mathlib.Core.Path.{sym}
 use lib.Seq.{length-take-le}
 use Rattle.taking.proofs.Taking.{takes_none, takes-over}
-use borrow.Author.Rules.{rules}
 use Rattle.taking.proofs.part.take_part.Goals as goal
 
 pub returns-then-b-gt-MOST : goal.returns-then-b-gt-MOST

@@ -1,5 +1,4 @@
 -- `give_list` meets its contract: the values are stored and told, and the reader goes by how they ended. Assumes nothing.
-use borrow.Author.Rules.{rules}
 use Rattle.writing.proofs.Giving.{list_tells, list-turns}
 use Rattle.writing.proofs.give.give_list.Goals as goal
 

@@ -1,7 +1,6 @@
 -- `give_values` meets its contract: what stands after the operator is a list, or a value that is stored and told. Assumes nothing.
 use native.Mathlib.Omega.{arith}
 use mathlib.Core.Path.{refl, sym, ◌∙◌}
-use borrow.Author.Rules.{rules}
 use Rattle.plain.specs.Bytes.{OPEN}
 use Rattle.decimal.proofs.Bounded.{reading-no-nan}
 use Rattle.value.proofs.Found.{value-number, value-string}
@@ -20,11 +19,10 @@ returns-then-stands c = λ s vs e.
     c.give_list.ensures s vs (at_bracket _ _ s vs (sym c.stands.ensures ∙ c.if-stands.true) e)
 
 pub store_number-stored-requires : goal.store_number-stored-requires
-store_number-stored-requires c =
-    (
-      ready-stretches _ _ c.requires.1,
-      reading-no-nan _ _ (value-number _ _ _ _ (sym c.read_value-word.ensures ∙ c.in-Number.is)).1.read,
-    )
+store_number-stored-requires c = (
+  ready-stretches _ _ c.requires.1,
+  reading-no-nan _ _ (value-number _ _ _ _ (sym c.read_value-word.ensures ∙ c.in-Number.is)).1.read,
+)
 
 pub tell-requires : goal.tell-requires
 tell-requires c = one-tells _ _ _ _ _ c.requires.1 c.store_number-stored.ensures refl refl

@@ -3,14 +3,12 @@ use Prim.Native.Nat.{ℕ, ◌+◌}
 use native.Mathlib.Nat.{add-zero}
 use native.Mathlib.Omega.{arith}
 use mathlib.Core.Path.{sym, ap, ◌∙◌}
-use borrow.Author.Rules.{rules}
 use Rattle.decimal.proofs.Bounded.{reading-no-nan}
 use Rattle.value.specs.Value.{number, string}
 use Rattle.statement.specs.declared.values.Item.TheVariants as I
 use Rattle.statement.specs.declared.values.Kind.TheVariants as K
 use Rattle.statement.proofs.Found.{item-number, item-string}
-use Rattle.page.specs.Writing.{page}
-use Rattle.writing.proofs.Storing.{Storing, quoted, none_left, next-left, at_first, stretches, at_last, one_more}
+use Rattle.writing.proofs.Storing.{quoted, none_left, next-left, at_first, stretches, at_last, one_more}
 use Rattle.writing.proofs.give.store_items.Goals as goal
 
 pub loop-left-init : goal.loop-left-init
@@ -38,11 +36,10 @@ returns-in-Fault c =
     at_last _ _ _ _ _ _ _ _ _ _ _ c.loop-left.invariant _ (next-left _ _ _ _ c.loop-left-test.true _ c.next_item-item.ensures (I.Fault _ _) c.in-Fault.is) _ c.stopped-in-Fault.ensures
 
 pub store_number-last-requires : goal.store_number-last-requires
-store_number-last-requires c =
-    (
-      stretches _ _ _ _ _ _ _ _ _ _ _ c.loop-left.invariant c.requires.1.long,
-      reading-no-nan _ _ (item-number _ _ _ _ _ (sym c.next_item-item.ensures ∙ c.in-Number.is)).1.read,
-    )
+store_number-last-requires c = (
+  stretches _ _ _ _ _ _ _ _ _ _ _ c.loop-left.invariant c.requires.1.long,
+  reading-no-nan _ _ (item-number _ _ _ _ _ (sym c.next_item-item.ensures ∙ c.in-Number.is)).1.read,
+)
 
 pub loop-left-preserved-in-Number : goal.loop-left-preserved-in-Number
 loop-left-preserved-in-Number c =

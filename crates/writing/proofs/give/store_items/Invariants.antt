@@ -1,16 +1,6 @@
 -- `store_items` meets its contract: what is left to store onto this page is what was to be stored onto the first. Assumes nothing.
-use Prim.Native.Nat.{ℕ, ◌+◌}
-use native.Mathlib.Nat.{add-zero}
-use native.Mathlib.Omega.{arith}
-use mathlib.Core.Path.{sym, ap, ◌∙◌}
-use borrow.Author.Rules.{rules}
-use Rattle.decimal.proofs.Bounded.{reading-no-nan}
-use Rattle.value.specs.Value.{number, string}
-use Rattle.statement.specs.declared.values.Item.TheVariants as I
-use Rattle.statement.specs.declared.values.Kind.TheVariants as K
-use Rattle.statement.proofs.Found.{item-number, item-string}
 use Rattle.page.specs.Writing.{page}
-use Rattle.writing.proofs.Storing.{Storing, quoted, none_left, next-left, at_first, stretches, at_last, one_more}
+use Rattle.writing.proofs.Storing.{Storing}
 use Rattle.writing.proofs.give.store_items.Given as goal
 
 abbrev pub invariant-loop-left : goal.invariant-loop-left

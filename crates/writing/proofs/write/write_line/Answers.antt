@@ -1,6 +1,5 @@
 -- `write_line` meets its contract: a delimiter line only turns the reader. Assumes nothing.
 use mathlib.Core.Path.{sym, ◌∙◌}
-use borrow.Author.Rules.{rules}
 use Rattle.writing.proofs.Lines.{data-mark, text-mark, plain-mark, nothing-turns}
 use Rattle.writing.proofs.write.write_line.Goals as goal
 

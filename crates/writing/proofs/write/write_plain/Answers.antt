@@ -1,5 +1,4 @@
 -- `write_plain` meets its contract: nothing is added, a statement is opened, or a list goes on, by the reader. Assumes nothing.
-use borrow.Author.Rules.{rules}
 use Rattle.writing.proofs.Lines.{text-next, data-next, list-next, nothing-turns, list_written}
 use Rattle.writing.proofs.write.write_plain.Goals as goal
 

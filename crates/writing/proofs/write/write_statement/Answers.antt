@@ -1,7 +1,6 @@
 -- `write_statement` meets its contract: a statement is opened and its values are given to it, or nothing is added. Assumes nothing.
 use native.Mathlib.Omega.{arith}
 use mathlib.Core.Path.{sym, ◌∙◌}
-use borrow.Author.Rules.{rules}
 use Rattle.writing.proofs.Heads.{head-stands}
 use Rattle.writing.proofs.Lines.{blank-next, no-head, opened-ready, nothing-turns, statement-written}
 use Rattle.writing.proofs.write.write_statement.Goals as goal

@@ -1,12 +1,9 @@
 -- `write_text` meets its contract: what is left to write onto this page is what was to be written onto the first. Assumes nothing.
 use Prim.Native.Nat.{◌+◌, ◌-◌}
-use native.Mathlib.Omega.{arith}
-use mathlib.Core.Path.{◌∙◌}
-use borrow.Author.Rules.{rules}
 use lib.ListN.{length}
 use Rattle.text.specs.Text.{read_text, added}
 use Rattle.page.specs.Writing.{page, written_on}
-use Rattle.writing.proofs.Passes.{Passes, at_first, roomy, one_more, at_last}
+use Rattle.writing.proofs.Passes.{Passes}
 use Rattle.writing.proofs.write.write_text.Given as goal
 
 abbrev pub invariant-loop-at : goal.invariant-loop-at
