@@ -2,3 +2,4 @@
 mod Longest
 mod Listed
 mod Reading
+mod Taken

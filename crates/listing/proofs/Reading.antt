@@ -1,5 +1,5 @@
 -- What came of reading is answered by a listing or by one line, and the output has room for both. Assumes nothing.
-use mathlib.Core.Path.{◌≡◌, sym, ap, subst, ◌∙◌}
+use mathlib.Core.Path.{◌≡◌, sym, ap, ◌∙◌}
 use mathlib.Core.List.{List, [], ◌∷◌, ◌++◌}
 use Prim.Native.Nat.{ℕ, ◌≤◌}
 use native.Mathlib.Nat.{zero-add}
@@ -10,18 +10,14 @@ use Rattle.words.specs.Placed.{Writes}
 use Rattle.words.proofs.Placed.{writes-same, writes-length}
 use Rattle.listing.specs.Listing.{listing}
 use Rattle.listing.specs.Lists.{SIZE, Lists}
-use Rattle.listing.specs.Input.{Within, UNREADABLE, printed}
+use Rattle.listing.specs.Input.{UNREADABLE, printed}
 use Rattle.listing.specs.declared.input.Input.{Input}
 use Rattle.listing.specs.declared.input.Input.TheVariants.{Bytes, Unreadable}
 use Rattle.listing.proofs.Listed.{listing-fits}
 
 -- ---- bytes that came
 
--- they stand in the room
-pub brought : (input : Input) (count : ℕ) (room : List ℕ) → input ≡ Bytes count → Within input room → count ≤ length room
-brought input count room e w = subst (λ (i : Input). Within i room) e w
-
--- and their listing is printed
+-- their listing is printed
 pub prints-listing : (input : Input) (count : ℕ) (room : List ℕ) → input ≡ Bytes count → {text out after : List ℕ} {r : ℕ}
     → text ≡ take count room → Lists text out r after → Writes 0 (printed room input) out r after
 unfolding printed

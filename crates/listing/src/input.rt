@@ -1,5 +1,5 @@
 // "The listing program reads one text from standard input, up to the text limit": what came of it, a text or a read that failed.
-ghost use Rattle.listing.specs.Input.{Within};
+ghost use Rattle.listing.specs.Input.{Within, Takes, Brings};
 
 use std::io::Read;
 
@@ -12,7 +12,8 @@ pub enum Input {
 
 // Reads until the input ends or the room is full.
 pub fn read<R: Read>(input: &mut R, room: &mut [u8]) -> Input
-    ensures { Within result room.new }
+    ensures within { Within result room.new }
+    ensures bytes { Brings (R.remaining input.old) result room.new }
 {
     let mut at = 0;
     while at < room.len() {
@@ -29,7 +30,8 @@ pub fn read<R: Read>(input: &mut R, room: &mut [u8]) -> Input
 
 // One read; it brings no bytes at the end of the input.
 fn read_more<R: Read>(input: &mut R, room: &mut [u8]) -> Input
-    ensures { Within result room.new }
+    ensures within { Within result room.new }
+    ensures bytes { Takes (R.remaining input.old) (R.remaining input.new) result room.new }
 {
     match input.read(room) {
         Ok(count) => Input::Bytes(count),
