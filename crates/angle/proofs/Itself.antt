@@ -7,7 +7,7 @@ use native.Mathlib.Omega.{arith}
 use lib.Dec.{T}
 use lib.Ieee.{Float, nan, inf, fin, binary64, up, down, lt, le, eq, rem, round, fits}
 use lib.Ieee.Fits.{nan-fits, round-fits, add-fits}
-use Rattle.plain.specs.Choice.{if◌then◌else◌}
+use Rattle.std.specs.Prelude.{if◌then◌else◌}
 use Rattle.plain.specs.Doubles.{◌⊕◌, remainder, printed, nought}
 use Rattle.plain.proofs.Values.{round-back}
 use Rattle.angle.specs.Wrap.{turn, plus_zero, kept, lifted, wrapped}

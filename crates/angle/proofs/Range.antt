@@ -9,7 +9,7 @@ use lib.IntN.{ℤ}
 use lib.Dec.{eqb}
 use lib.Ieee.{Float, nan, inf, fin, up, down, lt, le, eq, round}
 use lib.Ieee.Fits.{down_pos}
-use Rattle.plain.specs.Choice.{if◌then◌else◌}
+use Rattle.std.specs.Prelude.{if◌then◌else◌}
 use Rattle.plain.specs.Doubles.{remainder, printed, nought}
 use Rattle.plain.proofs.Tests.{both}
 use Rattle.angle.specs.Wrap.{turn, kept, lifted, wrapped}

@@ -1,7 +1,6 @@
 -- "Sine and cosine of x degrees: wrap x, then take y; each pair is (sine, cosine)." Definitions only.
-use Rattle.std.specs.Prelude.{Float}
+use Rattle.std.specs.Prelude.{Float, if◌then◌else◌}
 use Rattle.std.specs.Float.Ieee.{lt, neg}
-use Rattle.plain.specs.Choice.{if◌then◌else◌}
 use Rattle.plain.specs.Doubles.{◌⊖◌, ◌⊗◌, printed, one}
 use Rattle.angle.specs.Wrap.{wrapped, turn}
 use Rattle.angle.specs.Series.{closing, sine_divisors, cosine_divisors}

@@ -1,8 +1,7 @@
 -- "Wrap: r = x % 360 (sign of x); if r < 0, r + 360; if the result is not at least 0 and below 360, it is 0; a zero is +0."
 -- Definitions only.
-use Rattle.std.specs.Prelude.{Bool, ◌&&◌, Float}
+use Rattle.std.specs.Prelude.{Bool, ◌&&◌, Float, if◌then◌else◌}
 use Rattle.std.specs.Float.Ieee.{lt, le, eq}
-use Rattle.plain.specs.Choice.{if◌then◌else◌}
 use Rattle.plain.specs.Doubles.{◌⊕◌, remainder, printed, nought}
 
 -- 360

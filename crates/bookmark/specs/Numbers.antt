@@ -1,7 +1,6 @@
 -- How an open text stands as numbers: which way it goes on, how its reader stands, and its fault. Every number is read as one of them, so that no
 -- word but those that document 02 names can damage a pool. Definitions only.
-use Rattle.std.specs.Prelude.{ℕ, ◌%◌, List, [], ◌∷◌, eqb, get_or}
-use Rattle.plain.specs.Choice.{if◌then◌else◌}
+use Rattle.std.specs.Prelude.{ℕ, ◌%◌, List, [], ◌∷◌, eqb, get_or, if◌then◌else◌}
 use Rattle.value.specs.declared.faults.Fault.{Fault}
 use Rattle.value.specs.declared.faults.Fault.TheVariants as F
 use Rattle.statement.specs.declared.values.Kind.TheVariants as K

@@ -10,7 +10,7 @@ use lib.Dec.{T, ltb, leb, lit<, lit≤}
 use lib.IntN.{ℤ, pos, negsuc, nat_abs}
 use lib.Ieee.{Float, binary64, to_bits, is_nan}
 use borrow.Author.Tests.{leb-true, ltb-true}
-use Rattle.plain.specs.Choice.{if◌then◌else◌}
+use Rattle.std.specs.Prelude.{if◌then◌else◌}
 use Rattle.plain.specs.Sizes.{Below}
 use Rattle.plain.proofs.Tests.{both}
 use Rattle.plain.proofs.Rounding.{round-below}

@@ -9,7 +9,7 @@ use lib.Dec.{T}
 use lib.IntN.{ℤ}
 use lib.Ieee.{binary64}
 use lib.Ieee.Scale.{finite}
-use Rattle.plain.specs.Choice.{if◌then◌else◌}
+use Rattle.std.specs.Prelude.{if◌then◌else◌}
 use Rattle.plain.proofs.Bounded.{finite-under}
 use Rattle.plain.proofs.Nearest.{nearest-law, nearest-only}
 use Rattle.refusal.specs.declared.Refusal.TheVariants as R

@@ -4,7 +4,7 @@ use Prim.Native.Nat.{ℕ}
 use mathlib.Core.Path.{◌≡◌, refl}
 use mathlib.Core.Bool.{Bool, true, false}
 use mathlib.Core.List.{List}
-use Rattle.plain.specs.Choice.{if◌then◌else◌}
+use Rattle.std.specs.Prelude.{if◌then◌else◌}
 use Rattle.refusal.specs.declared.Refusal.TheVariants as R
 use Rattle.decimal.specs.Form.{Written, number, broken, written}
 use Rattle.decimal.specs.Class.{in_class, scaled_by, signed, valued, reading}

@@ -1,9 +1,8 @@
 -- "Each reading of a value is either a number in the class or a refusal". Document 02, K4: "w up to 19 significant digits after leading zeros, k from
 -- −22 to 22. The value is the double nearest to the exact w·10^k, ties to the even significand", then "negated for a minus". Definitions only.
-use Rattle.std.specs.Prelude.{ℕ, suc, ◌*◌, ◌^◌, Bool, false, ◌&&◌, List, ltb, leb, ℤ, pos, negsuc, nat_abs, Float}
+use Rattle.std.specs.Prelude.{ℕ, suc, ◌*◌, ◌^◌, Bool, false, ◌&&◌, List, ltb, leb, ℤ, pos, negsuc, nat_abs, Float, if◌then◌else◌}
 use Rattle.std.specs.Float.{binary64}
 use Rattle.std.specs.Float.Ieee.{neg, round}
-use Rattle.plain.specs.Choice.{if◌then◌else◌}
 use Rattle.refusal.specs.declared.Refusal.TheVariants as R
 use Rattle.rounding.specs.Exact.{STEEPEST}
 use Rattle.decimal.specs.Form.{Written, number, broken, written}

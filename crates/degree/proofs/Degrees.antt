@@ -8,7 +8,7 @@ use borrow.Author.Tests.{eq-eqb, ne_eqb}
 use lib.Dec.{eqb, lit≤}
 use lib.Ieee.{Float, nan, eq}
 use lib.ListN.{length, get_or}
-use Rattle.plain.specs.Choice.{if◌then◌else◌}
+use Rattle.std.specs.Prelude.{if◌then◌else◌}
 use Rattle.plain.specs.Doubles.{printed}
 use Rattle.rotation.specs.Elements.{LINEAR, CUBIC}
 use Rattle.words.specs.Over.{over}

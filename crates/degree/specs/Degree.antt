@@ -1,9 +1,8 @@
 -- "Later texts announce the degree in BODYs_MAX_PHASE_DEGREE. Read it: absent means 1; otherwise one value, 1, 2 or 3. .. 23 BAD DEGREE, for
 -- any other value or count or a string .. It is looked at only where nutation coefficients are present." Definitions only.
-use Rattle.std.specs.Prelude.{ℕ, zero, suc, ◌≤◌, ◌≡◌, Bool, true, false, List, eqb, Float, length, get_or}
+use Rattle.std.specs.Prelude.{ℕ, zero, suc, ◌≤◌, ◌≡◌, Bool, true, false, List, eqb, Float, length, get_or, if◌then◌else◌}
 use Rattle.std.specs.Float.{nan}
 use Rattle.std.specs.Float.Ieee.{eq}
-use Rattle.plain.specs.Choice.{if◌then◌else◌}
 use Rattle.plain.specs.Doubles.{printed}
 use Rattle.rotation.specs.Elements.{LINEAR, CUBIC}
 use Rattle.layout.specs.State.{Pool}

@@ -9,7 +9,7 @@ use lib.Dec.{eqb, leb, lit<}
 use lib.ListN.{length, take, drop, get_or}
 use lib.Seq.{get_or-take}
 use Rattle.plain.specs.Bytes.{fair}
-use Rattle.plain.specs.Choice.{if◌then◌else◌}
+use Rattle.std.specs.Prelude.{if◌then◌else◌}
 use Rattle.plain.proofs.Each.{Each, each_weaken}
 use Rattle.statement.specs.Statements.{Statement}
 use Rattle.words.specs.Halves.{upper, lower, sum, distinct, all}

@@ -10,7 +10,7 @@ use lib.Dec.{ltb}
 use lib.Ieee.{binary64, to_bits, of_bits}
 use lib.ListN.{length, drop, get_or, length-append}
 use lib.Seq.{get_or-take, get_or-drop, get_or-append-add}
-use Rattle.plain.specs.Choice.{if◌then◌else◌}
+use Rattle.std.specs.Prelude.{if◌then◌else◌}
 use Rattle.plain.proofs.Each.{Each, each_left, each_right}
 use Rattle.plain.proofs.Tests.{true-false}
 use Rattle.value.specs.Value.{Value, number, string}

@@ -9,7 +9,7 @@ use borrow.Author.Tests.{ltb-true, ltb-false, lt-ltb, le-ltb}
 use lib.Dec.{eqb, ltb}
 use lib.ListN.{length}
 use Rattle.plain.specs.Bytes.{LF, CR}
-use Rattle.plain.specs.Choice.{if◌then◌else◌}
+use Rattle.std.specs.Prelude.{if◌then◌else◌}
 use Rattle.feeding.specs.Kept.{ROOM, keep, settled}
 use Rattle.feeding.specs.Parts.{MOST, more, Open, holding, ended, taken, step, fed}
 use Rattle.feeding.proofs.Keeping.{keep-room}

@@ -7,7 +7,7 @@ use mathlib.Core.List.{List, []}
 use borrow.Author.Tests.{ltb-false}
 use lib.Dec.{ltb}
 use lib.ListN.{length}
-use Rattle.plain.specs.Choice.{if◌then◌else◌}
+use Rattle.std.specs.Prelude.{if◌then◌else◌}
 use Rattle.statement.specs.declared.values.Reader.TheVariants as R
 use Rattle.text.specs.Text.{read_text}
 use Rattle.feeding.specs.Parts.{MOST, Open, opening, fed, lastly, joined}

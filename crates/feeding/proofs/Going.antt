@@ -8,7 +8,7 @@ use borrow.Author.Tests.{eqb-true, le-ltb}
 use lib.Dec.{eqb}
 use lib.ListN.{length, length-append}
 use Rattle.plain.specs.Bytes.{LF, CR}
-use Rattle.plain.specs.Choice.{if◌then◌else◌}
+use Rattle.std.specs.Prelude.{if◌then◌else◌}
 use Rattle.plain.specs.Runs.{none}
 use Rattle.text.specs.Lines.{before, at_lf, lines}
 use Rattle.feeding.specs.Kept.{ROOM, keep, settled}

@@ -10,7 +10,7 @@ use lib.Dec.{eqb}
 use lib.ListN.{length, take, drop, get_or, length-drop}
 use lib.Seq.{drop-cons, length-take-le}
 use Rattle.plain.specs.Bytes.{LF}
-use Rattle.plain.specs.Choice.{if◌then◌else◌}
+use Rattle.std.specs.Prelude.{if◌then◌else◌}
 use Rattle.plain.specs.Runs.{run, skip, past}
 use Rattle.plain.proofs.Each.{Each}
 use Rattle.plain.proofs.Places.{past_after, take_past}

@@ -9,7 +9,7 @@ use borrow.Author.Tests.{eqb-true}
 use lib.Dec.{eqb, ltb, leb-suc-suc}
 use lib.ListN.{length}
 use Rattle.plain.specs.Bytes.{CR}
-use Rattle.plain.specs.Choice.{if◌then◌else◌}
+use Rattle.std.specs.Prelude.{if◌then◌else◌}
 use Rattle.plain.proofs.Each.{Each}
 use Rattle.value.specs.Classes.{line_byte}
 use Rattle.text.specs.Lines.{without_cr}

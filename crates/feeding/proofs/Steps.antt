@@ -6,7 +6,7 @@ use mathlib.Core.Bool.{Bool, true, false, not}
 use mathlib.Core.List.{List, [], ◌∷◌}
 use lib.Dec.{eqb}
 use Rattle.plain.specs.Bytes.{LF, CR}
-use Rattle.plain.specs.Choice.{if◌then◌else◌}
+use Rattle.std.specs.Prelude.{if◌then◌else◌}
 use Rattle.value.specs.Classes.{line_byte}
 use Rattle.feeding.specs.Kept.{keep, settled}
 use Rattle.feeding.specs.Parts.{MOST, Open, ended, step, fed}

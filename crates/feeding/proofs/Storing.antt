@@ -10,7 +10,7 @@ use borrow.Author.Tests.{lt-ltb, le-ltb}
 use lib.ListN.{length, take, drop, get_or, set, length-append, length-drop, drop_of_length-le}
 use lib.Seq.{drop-cons, drop-drop, get_or-append-add, get_or-drop, get_or-take, length-take-le, set_split}
 use lib.Seq.{paste, paste-suc, take_at, take-length, take-paste, take-suc, take-suc-set}
-use Rattle.plain.specs.Choice.{if◌then◌else◌}
+use Rattle.std.specs.Prelude.{if◌then◌else◌}
 use Rattle.value.specs.Classes.{blank}
 use Rattle.text.specs.Lengths.{LONGEST_LINE}
 use Rattle.feeding.specs.Kept.{ROOM, squeezed, keep, keep_all}

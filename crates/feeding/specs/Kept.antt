@@ -1,7 +1,6 @@
 -- What is kept of the line that goes on, "133 bytes" at most: all of a line that is no longer, and enough of a longer one. Definitions only.
-use Rattle.std.specs.Prelude.{ℕ, Bool, true, false, List, [], ◌∷◌, ◌++◌, ltb, length, take, drop, get_or}
+use Rattle.std.specs.Prelude.{ℕ, Bool, true, false, List, [], ◌∷◌, ◌++◌, ltb, length, take, drop, get_or, if◌then◌else◌}
 use Rattle.plain.specs.Bytes.{CR}
-use Rattle.plain.specs.Choice.{if◌then◌else◌}
 use Rattle.value.specs.Classes.{blank}
 use Rattle.text.specs.Lengths.{LONGEST_LINE}
 

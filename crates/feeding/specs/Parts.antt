@@ -1,9 +1,8 @@
 -- "Let a load be opened under a label, fed with parts of any length, also of none, and closed. Cut anywhere, also inside a delimiter or between
 -- CR and LF, the outcome at closing is that of one load of the joined bytes, with 4,194,304 bytes as the limit here." An open text between two
 -- bytes, whatever becomes of its complete lines. Definitions only.
-use Rattle.std.specs.Prelude.{ℕ, ◌+◌, Bool, true, false, List, [], ◌∷◌, ◌++◌, eqb, ltb, length}
+use Rattle.std.specs.Prelude.{ℕ, ◌+◌, Bool, true, false, List, [], ◌∷◌, ◌++◌, eqb, ltb, length, if◌then◌else◌}
 use Rattle.plain.specs.Bytes.{LF, CR}
-use Rattle.plain.specs.Choice.{if◌then◌else◌}
 use Rattle.plain.specs.Runs.{none}
 use Rattle.feeding.specs.Kept.{ROOM, keep, settled}
 

@@ -1,6 +1,5 @@
 -- What complete lines come to where a text is read: what they add, or the first fault. Definitions only.
-use Rattle.std.specs.Prelude.{ℕ, ◌≡◌, List, [], ◌++◌, ltb, length}
-use Rattle.plain.specs.Choice.{if◌then◌else◌}
+use Rattle.std.specs.Prelude.{ℕ, ◌≡◌, List, [], ◌++◌, ltb, length, if◌then◌else◌}
 use Rattle.value.specs.declared.faults.Fault.{Fault}
 use Rattle.statement.specs.Statements.{Event}
 use Rattle.statement.specs.declared.values.Reader.{Reader}

@@ -6,7 +6,7 @@ use Prim.Native.Nat.{ℕ, ◌+◌, ◌≤◌, ◌<◌}
 use native.Mathlib.Nat.{zero-mod, zero-div}
 use native.Mathlib.Omega.{arith}
 use lib.Ieee.{Float}
-use Rattle.plain.specs.Choice.{if◌then◌else◌}
+use Rattle.std.specs.Prelude.{if◌then◌else◌}
 use Rattle.refusal.specs.declared.Refusal.TheVariants.{UnknownBody, Incomplete}
 use Rattle.rotation.specs.declared.code.System.TheVariants.{Of}
 use Rattle.rotation.specs.declared.matrix.Oriented.{Oriented}

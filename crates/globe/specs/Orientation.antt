@@ -1,7 +1,6 @@
 -- "Order: 15 first; .. 9, 10, 11, 12. Fifteen is not checked where the built-in source is named." "16 MIXED KIND .. stands just before 12";
 -- "23 BAD DEGREE .. stands after 11 and before 16". The call for an orientation. Definitions only.
-use Rattle.std.specs.Prelude.{ℕ, ◌≡◌, List, Float}
-use Rattle.plain.specs.Choice.{if◌then◌else◌}
+use Rattle.std.specs.Prelude.{ℕ, ◌≡◌, List, Float, if◌then◌else◌}
 use Rattle.refusal.specs.declared.Refusal.TheVariants.{Epoch, UnknownBody, Incomplete, BadDegree, MixedKind, WrongCount, DamagedPool}
 use Rattle.rotation.specs.Epochs.{in_reach}
 use Rattle.rotation.specs.Codes.{system_of}

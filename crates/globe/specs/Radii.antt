@@ -1,9 +1,8 @@
 -- "BODYn_RADII absent: 10; not three values: 12.", and 16 for a string in it just before 12. "Radii from the pool must each be greater than 0 as
 -- doubles. Refusals: 24 BAD RADIUS, for radii only, stands after 12." The call for radii. Definitions only.
-use Rattle.std.specs.Prelude.{ℕ, ◌≡◌, Bool, ◌&&◌, List, eqb, Float, length, get_or}
+use Rattle.std.specs.Prelude.{ℕ, ◌≡◌, Bool, ◌&&◌, List, eqb, Float, length, get_or, if◌then◌else◌}
 use Rattle.std.specs.Float.{nan}
 use Rattle.std.specs.Float.Ieee.{lt}
-use Rattle.plain.specs.Choice.{if◌then◌else◌}
 use Rattle.plain.specs.Doubles.{nought}
 use Rattle.refusal.specs.declared.Refusal.TheVariants.{UnknownBody, MixedKind, WrongCount, DamagedPool, BadRadius}
 use Rattle.rotation.specs.Codes.{system_of}

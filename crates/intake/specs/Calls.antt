@@ -1,7 +1,6 @@
 -- "Let a load be opened under a label, fed with parts of any length, also of none, and closed." "An open one can be dropped". "Refusals: 22 TEXT OPEN,
 -- for .. opening .. while one is open, stands after 15 (opening then gives 1); feeding, closing or dropping with none open is 8." Definitions only.
-use Rattle.std.specs.Prelude.{ℕ, ◌≡◌, Bool, ◌&&◌, List, ltb}
-use Rattle.plain.specs.Choice.{if◌then◌else◌}
+use Rattle.std.specs.Prelude.{ℕ, ◌≡◌, Bool, ◌&&◌, List, ltb, if◌then◌else◌}
 use Rattle.refusal.specs.declared.Refusal.TheVariants.{LabelHeld, NotHeld, DamagedPool, TextOpen}
 use Rattle.words.specs.Halves.{all}
 use Rattle.layout.specs.Memory.{decode, put, opens, open_label}

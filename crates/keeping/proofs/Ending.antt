@@ -8,7 +8,7 @@ use mathlib.Core.List.{List}
 use borrow.Author.Tests.{ltb-false}
 use lib.Dec.{ltb}
 use lib.ListN.{length}
-use Rattle.plain.specs.Choice.{if◌then◌else◌}
+use Rattle.std.specs.Prelude.{if◌then◌else◌}
 use Rattle.plain.specs.Runs.{none}
 use Rattle.refusal.specs.declared.Refusal.TheVariants.{TextTooLong}
 use Rattle.statement.specs.declared.values.Reader.{Reader}

@@ -7,7 +7,7 @@ use borrow.Author.Tests.{ltb-true}
 use lib.Dec.{eqb, ltb, lit<}
 use lib.ListN.{length, take, drop, get_or}
 use Rattle.plain.specs.Bytes.{LF, CR}
-use Rattle.plain.specs.Choice.{if◌then◌else◌}
+use Rattle.std.specs.Prelude.{if◌then◌else◌}
 use Rattle.plain.proofs.Each.{each_append, each_take, each-drop, each_weaken}
 use Rattle.words.proofs.Each.{all-each}
 use Rattle.octets.proofs.Bytes.{Bytes}

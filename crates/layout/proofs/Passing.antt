@@ -9,7 +9,7 @@ use native.Mathlib.Omega.{arith}
 use lib.Dec.{eqb}
 use lib.ListN.{length, take, drop, get_or, length-take, length-drop}
 use lib.Seq.{drop-drop, take-append-le, drop-append-le}
-use Rattle.plain.specs.Choice.{if◌then◌else◌}
+use Rattle.std.specs.Prelude.{if◌then◌else◌}
 use Rattle.words.specs.Halves.{upper, lower, sum, all}
 use Rattle.words.proofs.Steps.{drop-next, drop-end, sum-next}
 use Rattle.layout.specs.Memory.{bytes_taken}

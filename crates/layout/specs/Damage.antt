@@ -1,8 +1,7 @@
 -- "A pool is damaged exactly when one of these fails": the conditions, in document 01's order; then "an open text whose statements and values,
 -- put after the held ones, fail its conditions (the limit of 16 texts apart), whose kept line is over 133 bytes or whose byte count is over
 -- 4,194,305". Definitions only.
-use Rattle.std.specs.Prelude.{ℕ, ◌+◌, ◌/◌, ◌%◌, ◌≤◌, ◌≡◌, Bool, true, false, ◌&&◌, List, [], ◌∷◌, eqb, ltb, leb, length, take, drop, get_or}
-use Rattle.plain.specs.Choice.{if◌then◌else◌}
+use Rattle.std.specs.Prelude.{ℕ, ◌+◌, ◌/◌, ◌%◌, ◌≤◌, ◌≡◌, Bool, true, false, ◌&&◌, List, [], ◌∷◌, eqb, ltb, leb, length, take, drop, get_or, if◌then◌else◌}
 use Rattle.plain.specs.Bytes.{fair}
 use Rattle.value.specs.Strings.{STRING}
 use Rattle.words.specs.Halves.{HALF, upper, lower, sum, distinct, all}

@@ -1,7 +1,6 @@
 -- The memory of a pool, word by word (docs/LAYOUT.md): `decode` reads the texts that it holds, `put` writes them, with no text open.
 -- Definitions only.
-use Rattle.std.specs.Prelude.{ℕ, ◌+◌, ◌*◌, ◌/◌, ◌%◌, Bool, not, List, [], ◌∷◌, map, eqb, length, take, drop, get_or}
-use Rattle.plain.specs.Choice.{if◌then◌else◌}
+use Rattle.std.specs.Prelude.{ℕ, ◌+◌, ◌*◌, ◌/◌, ◌%◌, Bool, not, List, [], ◌∷◌, map, eqb, length, take, drop, get_or, if◌then◌else◌}
 use Rattle.statement.specs.Statements.{Values, numbers, strings, how_many, Statement}
 use Rattle.statement.specs.declared.head.Operator.{Operator}
 use Rattle.statement.specs.declared.head.Operator.TheVariants.{Direct, Append}

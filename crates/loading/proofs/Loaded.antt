@@ -6,7 +6,7 @@ use mathlib.Core.List.{List, [], ◌∷◌}
 use borrow.Author.Tests.{eqb-false, ltb-false}
 use lib.Dec.{eqb, ltb}
 use lib.ListN.{length}
-use Rattle.plain.specs.Choice.{if◌then◌else◌}
+use Rattle.std.specs.Prelude.{if◌then◌else◌}
 use Rattle.refusal.specs.declared.Refusal.TheVariants.{LabelHeld, TextTooLong, TextOpen}
 use Rattle.statement.specs.Statements.{Event}
 use Rattle.text.specs.Text.{Read, fine, refused, read_text}

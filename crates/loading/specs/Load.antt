@@ -1,8 +1,7 @@
 -- "A text is accepted exactly when its label is not held, the rules admit it and the undamaged pool has room." "Order: 15 first; then by
 -- call 1, 2, the first faulty line (in it 3, then 4, then whichever of 5 and 6 starts at the earlier byte), 7"; 17 to 21 "stand where 5 stood";
 -- 22 "stands after 15". Definitions only.
-use Rattle.std.specs.Prelude.{ℕ, ◌≤◌, ◌≡◌, Bool, true, false, List, [], ◌∷◌, ◌++◌, ltb, length}
-use Rattle.plain.specs.Choice.{if◌then◌else◌}
+use Rattle.std.specs.Prelude.{ℕ, ◌≤◌, ◌≡◌, Bool, true, false, List, [], ◌∷◌, ◌++◌, ltb, length, if◌then◌else◌}
 use Rattle.refusal.specs.declared.Refusal.TheVariants.{LabelHeld, TextTooLong, NoRoom, DamagedPool, TextOpen}
 use Rattle.value.specs.Faults.{refusal_of}
 use Rattle.statement.specs.Statements.{Event, statements, openings, givings, bytes_given}

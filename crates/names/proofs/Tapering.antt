@@ -8,7 +8,7 @@ use native.Mathlib.Omega.{arith}
 use borrow.Author.Tests.{eqb-true, eqb-false, ne_eqb, le-leb}
 use lib.Dec.{T, eqb, leb, ltb, lit<}
 use lib.ListN.{length, get_or}
-use Rattle.plain.specs.Choice.{if◌then◌else◌}
+use Rattle.std.specs.Prelude.{if◌then◌else◌}
 use Rattle.plain.specs.Runs.{run, skip}
 use Rattle.value.specs.Classes.{name_byte}
 use Rattle.words.specs.Halves.{all}

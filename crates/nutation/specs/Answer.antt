@@ -1,7 +1,6 @@
 -- The answer by nutation, once by the buffers that the variables were found in, and once by the texts of a pool; that the two are one is a
 -- law of proofs/. Definitions only.
-use Rattle.std.specs.Prelude.{ℕ, ◌≤◌, ◌≡◌, Bool, true, ◌&&◌, not, List, Float, length, take}
-use Rattle.plain.specs.Choice.{if◌then◌else◌}
+use Rattle.std.specs.Prelude.{ℕ, ◌≤◌, ◌≡◌, Bool, true, ◌&&◌, not, List, Float, length, take, if◌then◌else◌}
 use Rattle.refusal.specs.declared.Refusal.TheVariants.{Incomplete, BadDegree, MixedKind, WrongCount}
 use Rattle.rotation.specs.Elements.{CUBIC, groups}
 use Rattle.rotation.specs.Evaluation.{evaluated}

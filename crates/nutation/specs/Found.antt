@@ -1,6 +1,5 @@
 -- What was found of a body's nutation variables, and of its system's angles where one of these is there. Definitions only.
-use Rattle.std.specs.Prelude.{ℕ, Bool, true, false, ◌||◌, List, [], Float}
-use Rattle.plain.specs.Choice.{if◌then◌else◌}
+use Rattle.std.specs.Prelude.{ℕ, Bool, true, false, ◌||◌, List, [], Float, if◌then◌else◌}
 use Rattle.layout.specs.Memory.{decode}
 use Rattle.variables.specs.declared.variable.Found.{Found}
 use Rattle.variables.specs.declared.variable.Found.TheVariants as F

@@ -1,6 +1,5 @@
 -- What the four variables and the degree of the angles come to: 11, then 23, then 16, then 12, or their counts. Definitions only.
-use Rattle.std.specs.Prelude.{ℕ, ◌+◌, ◌*◌, Bool}
-use Rattle.plain.specs.Choice.{if◌then◌else◌}
+use Rattle.std.specs.Prelude.{ℕ, ◌+◌, ◌*◌, Bool, if◌then◌else◌}
 use Rattle.rotation.specs.Elements.{CUBIC, GROUPS}
 use Rattle.variables.specs.declared.variable.Found.{Found}
 use Rattle.variables.specs.declared.variable.Found.TheVariants as F

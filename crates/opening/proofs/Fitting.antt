@@ -9,7 +9,7 @@ use mathlib.Core.List.{List, []}
 use borrow.Author.Tests.{leb-true, le-leb}
 use lib.Dec.{leb, ltb}
 use lib.ListN.{length}
-use Rattle.plain.specs.Choice.{if◌then◌else◌}
+use Rattle.std.specs.Prelude.{if◌then◌else◌}
 use Rattle.plain.proofs.Tests.{both, is_false, true-false}
 use Rattle.statement.specs.Statements.{Statement}
 use Rattle.statement.specs.declared.values.Reader.{Reader}

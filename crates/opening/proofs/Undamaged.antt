@@ -7,7 +7,7 @@ use mathlib.Core.List.{List, [], ◌∷◌}
 use lib.Dec.{eqb, ltb}
 use lib.ListN.{length}
 use Rattle.plain.specs.Bytes.{LF, CR}
-use Rattle.plain.specs.Choice.{if◌then◌else◌}
+use Rattle.std.specs.Prelude.{if◌then◌else◌}
 use Rattle.plain.specs.Runs.{none}
 use Rattle.plain.proofs.Tests.{true-false}
 use Rattle.refusal.specs.declared.Refusal.TheVariants.{TextTooLong}

@@ -1,7 +1,6 @@
 -- "the outcome at closing is that of one load of the joined bytes, with 4,194,304 bytes as the limit here": the answer of a closing and the texts
 -- then held, in the order 2, the first fault, 7. Definitions only.
-use Rattle.std.specs.Prelude.{ℕ, ◌≡◌, Bool, true, false, List, ltb, length}
-use Rattle.plain.specs.Choice.{if◌then◌else◌}
+use Rattle.std.specs.Prelude.{ℕ, ◌≡◌, Bool, true, false, List, ltb, length, if◌then◌else◌}
 use Rattle.refusal.specs.declared.Refusal.TheVariants.{TextTooLong, NoRoom}
 use Rattle.value.specs.Faults.{refusal_of}
 use Rattle.value.specs.declared.faults.Fault.TheVariants as F

@@ -1,7 +1,6 @@
 -- What the complete lines of an open text come to: its statements so far, stored behind those that the pool holds; too little room for them, after
 -- which lines are still read, because a faulty one is told before 7; or the first fault. Definitions only.
-use Rattle.std.specs.Prelude.{ℕ, ◌+◌, ◌≡◌, Bool, true, ◌&&◌, List, [], ◌∷◌, ◌++◌, map, leb, length}
-use Rattle.plain.specs.Choice.{if◌then◌else◌}
+use Rattle.std.specs.Prelude.{ℕ, ◌+◌, ◌≡◌, Bool, true, ◌&&◌, List, [], ◌∷◌, ◌++◌, map, leb, length, if◌then◌else◌}
 use Rattle.plain.specs.Lists.{Each}
 use Rattle.value.specs.Value.{Value}
 use Rattle.value.specs.declared.faults.Fault.{Fault}

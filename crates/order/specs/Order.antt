@@ -1,6 +1,5 @@
 -- "the variables in byte order of names": each name of some statements once, in order. Definitions only.
-use Rattle.std.specs.Prelude.{ℕ, Bool, true, false, ◌&&◌, ◌||◌, List, [], ◌∷◌, eqb, ltb}
-use Rattle.plain.specs.Choice.{if◌then◌else◌}
+use Rattle.std.specs.Prelude.{ℕ, Bool, true, false, ◌&&◌, ◌||◌, List, [], ◌∷◌, eqb, ltb, if◌then◌else◌}
 use Rattle.plain.specs.Lists.{equal}
 use Rattle.statement.specs.Statements.{Statement}
 

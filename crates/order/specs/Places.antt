@@ -1,6 +1,5 @@
 -- Names as a pool's memory has them, four words each, told by their places; and places in the order of the names. Definitions only.
-use Rattle.std.specs.Prelude.{ℕ, zero, suc, ◌+◌, ◌-◌, ◌*◌, ◌/◌, ◌≤◌, ◌<◌, ◌≡◌, true, List, [], ◌∷◌, map, ltb, length, take, drop}
-use Rattle.plain.specs.Choice.{if◌then◌else◌}
+use Rattle.std.specs.Prelude.{ℕ, zero, suc, ◌+◌, ◌-◌, ◌*◌, ◌/◌, ◌≤◌, ◌<◌, ◌≡◌, true, List, [], ◌∷◌, map, ltb, length, take, drop, if◌then◌else◌}
 use Rattle.plain.specs.Lists.{equal}
 use Rattle.words.specs.Over.{over, part}
 use Rattle.words.specs.Halves.{all}

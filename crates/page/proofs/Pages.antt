@@ -10,7 +10,7 @@ use borrow.Author.Tests.{ne_eqb, ltb-true, ltb-false, le-ltb}
 use lib.Dec.{ltb}
 use lib.Ieee.{binary64, to_bits}
 use lib.ListN.{length, get_or}
-use Rattle.plain.specs.Choice.{if◌then◌else◌}
+use Rattle.std.specs.Prelude.{if◌then◌else◌}
 use Rattle.value.specs.Value.{Value, number, string, bytes_in}
 use Rattle.statement.specs.Statements.{Event, opened, value, openings, givings, bytes_given}
 use Rattle.statement.specs.declared.head.Operator.{Operator}

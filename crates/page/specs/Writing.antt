@@ -1,8 +1,7 @@
 -- A page is a pool's memory and a pen on it, behind what is held: what a text adds is written there, event by event. Definitions only.
-use Rattle.std.specs.Prelude.{ℕ, ◌+◌, ◌*◌, ◌-◌, Bool, false, true, ◌&&◌, List, [], ◌∷◌, eqb, ltb, length}
+use Rattle.std.specs.Prelude.{ℕ, ◌+◌, ◌*◌, ◌-◌, Bool, false, true, ◌&&◌, List, [], ◌∷◌, eqb, ltb, length, if◌then◌else◌}
 use Rattle.std.specs.Float.{binary64}
 use Rattle.std.specs.Float.Ieee.{to_bits}
-use Rattle.plain.specs.Choice.{if◌then◌else◌}
 use Rattle.value.specs.Value.{Value, number, string}
 use Rattle.statement.specs.Statements.{Event, opened, value}
 use Rattle.statement.specs.declared.head.Operator.{Operator}

@@ -8,7 +8,7 @@ use native.Mathlib.Omega.{arith}
 use lib.Dec.{eqb, ltb}
 use lib.ListN.{length, length-append}
 use Rattle.plain.specs.Bytes.{LF, SPACE, QUOTE, ZERO}
-use Rattle.plain.specs.Choice.{if◌then◌else◌}
+use Rattle.std.specs.Prelude.{if◌then◌else◌}
 use Rattle.value.specs.Strings.{doubled, quoted}
 use Rattle.pen.specs.Digits.{digit_of, digits}
 use Rattle.pen.specs.Figures.{decimal_up_to, decimal}

@@ -1,6 +1,5 @@
 -- Numbers as they are written: in decimal, and the bits of a double in upper-case hexadecimal. Definitions only.
-use Rattle.std.specs.Prelude.{ℕ, zero, suc, ◌+◌, ◌/◌, ◌%◌, List, [], ◌∷◌, ◌++◌, ltb}
-use Rattle.plain.specs.Choice.{if◌then◌else◌}
+use Rattle.std.specs.Prelude.{ℕ, zero, suc, ◌+◌, ◌/◌, ◌%◌, List, [], ◌∷◌, ◌++◌, ltb, if◌then◌else◌}
 use Rattle.plain.specs.Bytes.{ZERO}
 use Rattle.pen.specs.Digits.{digits}
 

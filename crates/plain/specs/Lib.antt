@@ -1,5 +1,4 @@
 -- Words of the definitions.
-pub mod Choice
 pub mod Doubles
 pub mod Bytes
 pub mod Ascii

@@ -7,7 +7,7 @@ use mathlib.Core.List.{List, [], ◌∷◌}
 use borrow.Author.Tests.{lt-ltb, le-ltb, ltb-true, ltb-false}
 use lib.Dec.{eqb, ltb}
 use lib.ListN.{length, drop}
-use Rattle.plain.specs.Choice.{if◌then◌else◌}
+use Rattle.std.specs.Prelude.{if◌then◌else◌}
 use Rattle.statement.specs.Statements.{Statement}
 use Rattle.words.specs.Halves.{upper, lower, place}
 use Rattle.layout.specs.Memory.{text_words, head_words, name_words, value_words, held_bytes, cut_statements, cut_texts, decode}

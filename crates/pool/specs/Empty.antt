@@ -1,8 +1,7 @@
 -- 15 is given by "every call that uses the pool; make empty for the size alone". "22 TEXT OPEN, for load, opening, removal and clear while one is
 -- open, stands after 15"; "make empty drops it". Make empty and clear write the totals, and that no text is open, and leave every other word.
 -- Definitions only.
-use Rattle.std.specs.Prelude.{ℕ, ◌≡◌, List, []}
-use Rattle.plain.specs.Choice.{if◌then◌else◌}
+use Rattle.std.specs.Prelude.{ℕ, ◌≡◌, List, [], if◌then◌else◌}
 use Rattle.refusal.specs.declared.Refusal.TheVariants.{DamagedPool, TextOpen}
 use Rattle.layout.specs.Memory.{put, opens}
 use Rattle.layout.specs.Damage.{sized, sound}

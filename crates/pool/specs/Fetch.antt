@@ -1,7 +1,6 @@
 -- 13 where "no held statement has that name", 16 where a string is in the variable, 14 where "buffer shorter than the variable", all after
 -- 15: what fetch answers, and the buffer that it leaves. Definitions only.
-use Rattle.std.specs.Prelude.{ℕ, ◌≡◌, List, Float, length}
-use Rattle.plain.specs.Choice.{if◌then◌else◌}
+use Rattle.std.specs.Prelude.{ℕ, ◌≡◌, List, Float, length, if◌then◌else◌}
 use Rattle.refusal.specs.declared.Refusal.TheVariants.{NoVariable, MixedKind, ShortBuffer, DamagedPool}
 use Rattle.layout.specs.Memory.{decode}
 use Rattle.layout.specs.Damage.{sound}

@@ -1,7 +1,6 @@
 -- "Strings are fetched by place, counted from 1, each to the start of a lent byte buffer, its length told." "fetching a string from a variable
 -- with a number is 16 too, place 0 or past the end is 13; both fetches ask 13, 16, 14 in turn", after 15. Definitions only.
-use Rattle.std.specs.Prelude.{ℕ, ◌≡◌, List, length}
-use Rattle.plain.specs.Choice.{if◌then◌else◌}
+use Rattle.std.specs.Prelude.{ℕ, ◌≡◌, List, length, if◌then◌else◌}
 use Rattle.refusal.specs.declared.Refusal.TheVariants.{DamagedPool}
 use Rattle.layout.specs.Memory.{decode}
 use Rattle.layout.specs.Damage.{sound}

@@ -1,6 +1,5 @@
 -- A text is held under a label. Definitions only.
-use Rattle.std.specs.Prelude.{ℕ, Bool, true, false, [], ◌∷◌, eqb}
-use Rattle.plain.specs.Choice.{if◌then◌else◌}
+use Rattle.std.specs.Prelude.{ℕ, Bool, true, false, [], ◌∷◌, eqb, if◌then◌else◌}
 use Rattle.layout.specs.State.{Pool}
 
 unfoldable pub held : ℕ → Pool → Bool

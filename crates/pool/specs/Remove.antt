@@ -1,7 +1,6 @@
 -- "Room freed by a removal can be used again.": the text under a label goes, and the others keep their order; 8 where "label not held",
 -- 22 while a text is open. Definitions only.
-use Rattle.std.specs.Prelude.{ℕ, ◌≡◌, List, [], ◌∷◌, eqb}
-use Rattle.plain.specs.Choice.{if◌then◌else◌}
+use Rattle.std.specs.Prelude.{ℕ, ◌≡◌, List, [], ◌∷◌, eqb, if◌then◌else◌}
 use Rattle.refusal.specs.declared.Refusal.TheVariants.{NotHeld, DamagedPool, TextOpen}
 use Rattle.layout.specs.State.{Pool}
 use Rattle.layout.specs.Memory.{decode, put, opens}

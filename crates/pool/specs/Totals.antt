@@ -1,6 +1,5 @@
 -- "totals held (texts, statements, values)", "totals being the counts summed over those texts". Definitions only.
-use Rattle.std.specs.Prelude.{ℕ, ◌≡◌, List, length}
-use Rattle.plain.specs.Choice.{if◌then◌else◌}
+use Rattle.std.specs.Prelude.{ℕ, ◌≡◌, List, length, if◌then◌else◌}
 use Rattle.refusal.specs.declared.Refusal.TheVariants.{DamagedPool}
 use Rattle.layout.specs.State.{Pool, program, values}
 use Rattle.layout.specs.Memory.{decode}

@@ -7,7 +7,7 @@ use mathlib.Core.List.{List, [], ◌∷◌}
 use lib.Dec.{eqb}
 use lib.Ieee.{round, lt}
 use lib.Ieee.Scale.{finite}
-use Rattle.plain.specs.Choice.{if◌then◌else◌}
+use Rattle.std.specs.Prelude.{if◌then◌else◌}
 use Rattle.plain.specs.Doubles.{printed}
 use Rattle.plain.proofs.Bounded.{Under, finite-under}
 use Rattle.plain.proofs.Each.{Each, each_weaken}

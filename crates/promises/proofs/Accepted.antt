@@ -7,7 +7,7 @@ use mathlib.Core.Logic.{◌↔◌}
 use borrow.Author.Tests.{ltb-false, le-ltb}
 use lib.Dec.{ltb}
 use lib.ListN.{length}
-use Rattle.plain.specs.Choice.{if◌then◌else◌}
+use Rattle.std.specs.Prelude.{if◌then◌else◌}
 use Rattle.refusal.specs.declared.Refusal.TheVariants.{LabelHeld, TextTooLong, DamagedPool, TextOpen}
 use Rattle.text.specs.Text.{Read, fine, refused, read_text}
 use Rattle.layout.specs.State.{Pool}

@@ -9,7 +9,7 @@ use lib.Dec.{eqb}
 use lib.Ieee.{Float, binary64, of_bits}
 use lib.ListN.{length, take, drop, get_or}
 use lib.Seq.{take_at}
-use Rattle.plain.specs.Choice.{if◌then◌else◌}
+use Rattle.std.specs.Prelude.{if◌then◌else◌}
 use Rattle.plain.specs.Bytes.{within}
 use Rattle.refusal.specs.Numbers.{SUCCESS}
 use Rattle.layout.specs.State.{Pool}

@@ -5,7 +5,7 @@ use mathlib.Core.Bool.{Bool, true, false}
 use mathlib.Core.List.{List, [], ◌∷◌, ◌++◌, map}
 use borrow.Author.Tests.{ne_eqb, eqb-false}
 use lib.Dec.{eqb}
-use Rattle.plain.specs.Choice.{if◌then◌else◌}
+use Rattle.std.specs.Prelude.{if◌then◌else◌}
 use Rattle.statement.specs.Statements.{Statement}
 use Rattle.words.proofs.Halves.{Different}
 use Rattle.plain.proofs.Each.{Each, each_append, each_left, each_right}

@@ -7,7 +7,7 @@ use mathlib.Core.Bool.{Bool, true, false}
 use mathlib.Core.List.{[], ◌∷◌, ◌++◌}
 use lib.Dec.{eqb}
 use lib.ListN.{length, length-append}
-use Rattle.plain.specs.Choice.{if◌then◌else◌}
+use Rattle.std.specs.Prelude.{if◌then◌else◌}
 use Rattle.layout.specs.State.{Text, Pool, program, values, string_bytes}
 use Rattle.layout.specs.Limits.{room}
 use Rattle.layout.proofs.Legal.{fits-of, of-fits, program-append, values-append, bytes-append}

@@ -6,7 +6,7 @@ use mathlib.Core.Bool.{Bool, true, false}
 use mathlib.Core.List.{List}
 use borrow.Author.Tests.{eq-eqb}
 use lib.ListN.{length}
-use Rattle.plain.specs.Choice.{if◌then◌else◌}
+use Rattle.std.specs.Prelude.{if◌then◌else◌}
 use Rattle.plain.proofs.Tests.{true-false}
 use Rattle.refusal.specs.declared.Refusal.TheVariants.{LabelHeld, NotHeld, TextOpen}
 use Rattle.rotation.specs.Builtin.{builtin_orientation, builtin_radii}

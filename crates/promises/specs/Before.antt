@@ -1,8 +1,7 @@
 -- The answer to an orientation as it was before document 02's K8, when no degree was read: "it has an even count of at most 64, and at least
 -- twice the longest of the three; otherwise 12." Definitions only: with it a theorem can say what "Degree 1 gives the bits it gave before" says,
 -- refusals too.
-use Rattle.std.specs.Prelude.{ℕ, ◌*◌, ◌%◌, max, ◌≡◌, Bool, true, false, ◌&&◌, List, leb, eqb, Float, length}
-use Rattle.plain.specs.Choice.{if◌then◌else◌}
+use Rattle.std.specs.Prelude.{ℕ, ◌*◌, ◌%◌, max, ◌≡◌, Bool, true, false, ◌&&◌, List, leb, eqb, Float, length, if◌then◌else◌}
 use Rattle.refusal.specs.declared.Refusal.TheVariants.{Epoch, UnknownBody, Incomplete, MixedKind, WrongCount}
 use Rattle.rotation.specs.Epochs.{in_reach}
 use Rattle.rotation.specs.Elements.{LINEAR}

@@ -1,5 +1,5 @@
 -- Demands 1 and 2, as the customer says them. Definitions only; the theorems are in proofs/.
-use Rattle.std.specs.Prelude.{ℕ, ◌≤◌, ◌≡◌, Bool, true, false, ◌||◌, List, [], ◌∷◌, ◌++◌, ◌↔◌, ◌⊎◌, Float, length, drop}
+use Rattle.std.specs.Prelude.{ℕ, ◌≤◌, ◌≡◌, Bool, true, false, ◌||◌, List, [], ◌∷◌, ◌++◌, ◌↔◌, ◌⊎◌, Float, length, drop, if◌then◌else◌}
 use Rattle.std.specs.Float.Ieee.Scale.{finite}
 use Rattle.plain.specs.Bytes.{within}
 use Rattle.refusal.specs.Numbers.{number_of}
@@ -38,7 +38,6 @@ use Rattle.pool.specs.Remove.{Removes}
 use Rattle.feeding.specs.Parts.{MOST, joined}
 use Rattle.intake.specs.Opened.{shut}
 use Rattle.intake.specs.Calls.{are_bytes, Opens, Feeds, Closes, Drops}
-use Rattle.plain.specs.Choice.{if◌then◌else◌}
 use Rattle.variables.specs.Found as F
 use Rattle.variables.specs.Variables.{variable}
 use Rattle.variables.specs.Spelled.{string_of}

@@ -2,8 +2,7 @@
 -- their latest accepted load". "Demands 2 and 3 count a load at its closing and are claimed for answers given while none is open. Demand 3's
 -- sequences may hold openings, parts and drops, a dropped text counting as never loaded, and its empty pool takes each text the way it came, by
 -- load or by parts." Definitions only.
-use Rattle.std.specs.Prelude.{ℕ, ◌≡◌, true, List, [], ◌∷◌, ◌++◌, map, eqb, Float, length}
-use Rattle.plain.specs.Choice.{if◌then◌else◌}
+use Rattle.std.specs.Prelude.{ℕ, ◌≡◌, true, List, [], ◌∷◌, ◌++◌, map, eqb, Float, length, if◌then◌else◌}
 use Rattle.layout.specs.State.{Text, Pool}
 use Rattle.layout.specs.Limits.{WORDS}
 use Rattle.loading.specs.Load.{text_of}

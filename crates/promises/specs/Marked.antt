@@ -1,10 +1,9 @@
 -- "Marked cases, proved about the definitions as a single table under one claim". Definitions only; the claim is proved in
 -- proofs/Marked.antt.
-use Rattle.std.specs.Prelude.{ℕ, ◌+◌, ◌≡◌, Bool, true, false, ◌&&◌, not, List, [], ◌∷◌, map, eqb, Float, length}
+use Rattle.std.specs.Prelude.{ℕ, ◌+◌, ◌≡◌, Bool, true, false, ◌&&◌, not, List, [], ◌∷◌, map, eqb, Float, length, if◌then◌else◌}
 use Rattle.std.specs.Float.{binary64}
 use Rattle.std.specs.Float.Ieee.{to_bits, of_bits, neg}
 use Rattle.plain.specs.Ascii.{ascii}
-use Rattle.plain.specs.Choice.{if◌then◌else◌}
 use Rattle.plain.specs.Doubles.{printed, nought, one}
 use Rattle.plain.specs.Lists.{equal}
 use Rattle.refusal.specs.Numbers.{number_of}

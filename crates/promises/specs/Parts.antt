@@ -1,7 +1,6 @@
 -- "Cut anywhere, also inside a delimiter or between CR and LF, the outcome at closing is that of one load of the joined bytes, with 4,194,304
 -- bytes as the limit here." Of any build. Definitions only.
-use Rattle.std.specs.Prelude.{ℕ, ◌≤◌, ◌≡◌, true, List, ◌++◌, length}
-use Rattle.plain.specs.Choice.{if◌then◌else◌}
+use Rattle.std.specs.Prelude.{ℕ, ◌≤◌, ◌≡◌, true, List, ◌++◌, length, if◌then◌else◌}
 use Rattle.layout.specs.Limits.{LONGEST_LOAD}
 use Rattle.layout.specs.Memory.{decode}
 use Rattle.loading.specs.Load.{text_of, with}

@@ -1,7 +1,6 @@
 -- "a variable is its last direct assignment followed by all later appendings, or all appendings.", of values of both kinds: "demand 3
 -- covers strings too". Definitions only.
-use Rattle.std.specs.Prelude.{ℕ, ◌≡◌, true, false, ◌⊎◌, List, [], ◌∷◌, ◌++◌}
-use Rattle.plain.specs.Choice.{if◌then◌else◌}
+use Rattle.std.specs.Prelude.{ℕ, ◌≡◌, true, false, ◌⊎◌, List, [], ◌∷◌, ◌++◌, if◌then◌else◌}
 use Rattle.statement.specs.Statements.{Statement}
 use Rattle.layout.specs.State.{Pool, program, flat}
 use Rattle.variables.specs.Variables.{Datum, is_direct, has, assigns, any, each, gives, variable}

@@ -1,7 +1,6 @@
 -- "Useless builds that have to be caught": each kind as a definition, and the claim that none meets the demand named for it. Definitions
 -- only.
-use Rattle.std.specs.Prelude.{ℕ, ◌≤◌, ◌<◌, ◌≡◌, Bool, true, false, List, [], ◌++◌, Float, length}
-use Rattle.plain.specs.Choice.{if◌then◌else◌}
+use Rattle.std.specs.Prelude.{ℕ, ◌≤◌, ◌<◌, ◌≡◌, Bool, true, false, List, [], ◌++◌, Float, length, if◌then◌else◌}
 use Rattle.refusal.specs.declared.Refusal.{Refusal}
 use Rattle.rotation.specs.Evaluation.{evaluated}
 use Rattle.rotation.specs.Table.{row_of}

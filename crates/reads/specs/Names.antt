@@ -1,7 +1,6 @@
 -- "Which names a query may read": a given orientation or radii query, "its system's angles and degree included". docs/READS.md has them as a table.
 -- Definitions only.
-use Rattle.std.specs.Prelude.{ℕ, ◌≡◌, List, [], ◌∷◌, ltb, Float, length, get_or}
-use Rattle.plain.specs.Choice.{if◌then◌else◌}
+use Rattle.std.specs.Prelude.{ℕ, ◌≡◌, List, [], ◌∷◌, ltb, Float, length, get_or, if◌then◌else◌}
 use Rattle.rotation.specs.Codes.{system_of}
 use Rattle.rotation.specs.declared.code.System.{System}
 use Rattle.rotation.specs.declared.code.System.TheVariants.{Of, Nowhere}

@@ -7,7 +7,7 @@ use native.Mathlib.Omega.{arith}
 use lib.Dec.{eqb, lit<, lit≤}
 use lib.ListN.{get_or}
 use lib.Ieee.{Float, nan, neg, round}
-use Rattle.plain.specs.Choice.{if◌then◌else◌}
+use Rattle.std.specs.Prelude.{if◌then◌else◌}
 use Rattle.plain.specs.Doubles.{printed}
 use Rattle.plain.specs.Sizes.{Below}
 use Rattle.rotation.specs.Epochs.{in_reach}

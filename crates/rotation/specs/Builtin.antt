@@ -1,6 +1,5 @@
 -- What the built-in source answers: by its table, and 9 before 10. Definitions only.
-use Rattle.std.specs.Prelude.{ℕ, List, [], eqb, Float}
-use Rattle.plain.specs.Choice.{if◌then◌else◌}
+use Rattle.std.specs.Prelude.{ℕ, List, [], eqb, Float, if◌then◌else◌}
 use Rattle.refusal.specs.declared.Refusal.TheVariants as R
 use Rattle.rotation.specs.Epochs.{in_reach}
 use Rattle.rotation.specs.Elements.{LINEAR}

@@ -1,6 +1,5 @@
 -- "Codes are 1 to 10 and 100 to 999; others are UNKNOWN BODY. .. s being the hundreds of n, or n itself up to 10;" Definitions only.
-use Rattle.std.specs.Prelude.{ℕ, ◌/◌}
-use Rattle.plain.specs.Choice.{if◌then◌else◌}
+use Rattle.std.specs.Prelude.{ℕ, ◌/◌, if◌then◌else◌}
 use Rattle.plain.specs.Bytes.{within}
 use Rattle.rotation.specs.declared.code.System.{System}
 use Rattle.rotation.specs.declared.code.System.TheVariants.{Of, Nowhere}

@@ -1,7 +1,6 @@
 -- The built-in table of "Elements wanted": "missing ones 0". Definitions only.
-use Rattle.std.specs.Prelude.{ℕ, List, [], ◌∷◌, eqb, Float}
+use Rattle.std.specs.Prelude.{ℕ, List, [], ◌∷◌, eqb, Float, if◌then◌else◌}
 use Rattle.std.specs.Float.Ieee.{neg}
-use Rattle.plain.specs.Choice.{if◌then◌else◌}
 use Rattle.plain.specs.Doubles.{printed}
 use Rattle.rotation.specs.declared.elements.Polynomial.{Polynomial}
 use Rattle.rotation.specs.declared.table.Row.{Row}

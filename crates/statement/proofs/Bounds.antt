@@ -7,7 +7,7 @@ use mathlib.Core.List.{List, [], ◌∷◌}
 use lib.Dec.{ltb}
 use lib.ListN.{length, drop}
 use Rattle.plain.specs.Bytes.{OPEN}
-use Rattle.plain.specs.Choice.{if◌then◌else◌}
+use Rattle.std.specs.Prelude.{if◌then◌else◌}
 use Rattle.plain.specs.Runs.{past}
 use Rattle.value.specs.Classes.{blank, stands}
 use Rattle.value.specs.Strings.{undoubled}

@@ -9,7 +9,7 @@ use lib.Dec.{ltb}
 use lib.Ieee.{Float}
 use lib.ListN.{length}
 use Rattle.plain.specs.Bytes.{QUOTE, CLOSE}
-use Rattle.plain.specs.Choice.{if◌then◌else◌}
+use Rattle.std.specs.Prelude.{if◌then◌else◌}
 use Rattle.plain.specs.Runs.{past}
 use Rattle.plain.proofs.Places.{past_after}
 use Rattle.value.specs.Classes.{separator, stands}

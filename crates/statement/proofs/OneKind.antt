@@ -8,7 +8,7 @@ use lib.Dec.{ltb}
 use lib.Ieee.{Float, binary64, to_bits}
 use lib.ListN.{length, drop}
 use Rattle.plain.specs.Bytes.{OPEN, fair}
-use Rattle.plain.specs.Choice.{if◌then◌else◌}
+use Rattle.std.specs.Prelude.{if◌then◌else◌}
 use Rattle.plain.specs.Runs.{run, past}
 use Rattle.plain.proofs.Each.{Each}
 use Rattle.decimal.specs.Class.{reading}

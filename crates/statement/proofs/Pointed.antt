@@ -9,7 +9,7 @@ use borrow.Author.Tests.{ltb-true}
 use lib.Dec.{ltb, lit<}
 use lib.ListN.{length, drop}
 use Rattle.plain.specs.Bytes.{PLUS, EQUALS, QUOTE, OPEN, CLOSE, within}
-use Rattle.plain.specs.Choice.{if◌then◌else◌}
+use Rattle.std.specs.Prelude.{if◌then◌else◌}
 use Rattle.plain.specs.Runs.{past}
 use Rattle.plain.proofs.Places.{past-within}
 use Rattle.plain.proofs.Tests.{both}

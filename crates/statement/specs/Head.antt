@@ -1,7 +1,6 @@
 -- "Name: the longest run of letters, digits or underscores, 1 to 32 of them; case counts." "Then, blanks optional, `=` (direct) or `+=`
 -- (append).": a statement up to its values. Definitions only.
-use Rattle.std.specs.Prelude.{ℕ, ◌+◌, ◌-◌, ◌&&◌, List, ltb, length}
-use Rattle.plain.specs.Choice.{if◌then◌else◌}
+use Rattle.std.specs.Prelude.{ℕ, ◌+◌, ◌-◌, ◌&&◌, List, ltb, length, if◌then◌else◌}
 use Rattle.plain.specs.Bytes.{PLUS, EQUALS, within}
 use Rattle.plain.specs.Runs.{past}
 use Rattle.value.specs.Classes.{blank, name_byte, stands}

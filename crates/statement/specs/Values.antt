@@ -1,7 +1,6 @@
 -- "Then a number, or `(` with at least one number and `)`.", and "A list is all numbers or all strings.": a line's values from a place on.
 -- Definitions only.
-use Rattle.std.specs.Prelude.{ℕ, zero, suc, ◌+◌, Bool, true, not, List, [], ◌∷◌, ltb, length, drop}
-use Rattle.plain.specs.Choice.{if◌then◌else◌}
+use Rattle.std.specs.Prelude.{ℕ, zero, suc, ◌+◌, Bool, true, not, List, [], ◌∷◌, ltb, length, drop, if◌then◌else◌}
 use Rattle.plain.specs.Bytes.{QUOTE, OPEN, CLOSE}
 use Rattle.plain.specs.Runs.{past}
 use Rattle.value.specs.Classes.{blank, separator, stands}

@@ -8,7 +8,7 @@ use borrow.Author.Tests.{ltb-false}
 use lib.Dec.{ltb}
 use lib.ListN.{length}
 use Rattle.plain.specs.Bytes.{fair}
-use Rattle.plain.specs.Choice.{if◌then◌else◌}
+use Rattle.std.specs.Prelude.{if◌then◌else◌}
 use Rattle.plain.specs.Runs.{run, past}
 use Rattle.plain.proofs.Each.{Each}
 use Rattle.value.specs.declared.faults.Fault.{Fault}

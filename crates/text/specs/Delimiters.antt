@@ -1,8 +1,7 @@
 -- "A line that, without outer blanks, is exactly `\begindata` or `\begintext` opens the section it names, even from within it."
 -- Definitions only.
-use Rattle.std.specs.Prelude.{ℕ, Bool, false, ◌&&◌, List, [], ◌∷◌, eqb}
+use Rattle.std.specs.Prelude.{ℕ, Bool, false, ◌&&◌, List, [], ◌∷◌, eqb, if◌then◌else◌}
 use Rattle.plain.specs.Ascii.{ascii}
-use Rattle.plain.specs.Choice.{if◌then◌else◌}
 use Rattle.plain.specs.Runs.{skip, none}
 use Rattle.value.specs.Classes.{blank}
 use Rattle.text.specs.declared.delimiters.Mark.{Mark}

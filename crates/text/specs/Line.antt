@@ -1,6 +1,5 @@
 -- The answer to one line: what it adds and how the reader stands after it, or its first fault. Definitions only.
-use Rattle.std.specs.Prelude.{ℕ, ◌-◌, List, [], ◌∷◌, ◌++◌, map, ltb, length, take, drop}
-use Rattle.plain.specs.Choice.{if◌then◌else◌}
+use Rattle.std.specs.Prelude.{ℕ, ◌-◌, List, [], ◌∷◌, ◌++◌, map, ltb, length, take, drop, if◌then◌else◌}
 use Rattle.plain.specs.Bytes.{fair}
 use Rattle.plain.specs.Runs.{past}
 use Rattle.value.specs.declared.faults.Fault.{Fault}

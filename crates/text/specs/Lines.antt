@@ -1,7 +1,6 @@
 -- "Lines end at LF; one CR just before it is dropped, and length is counted without it; a last line needs no LF, and after a final LF
 -- there is no further line; lines count from 1." Definitions only.
-use Rattle.std.specs.Prelude.{ℕ, ◌+◌, ◌-◌, ◌≤◌, ◌<◌, ◌≡◌, Bool, false, ◌&&◌, List, [], ◌∷◌, eqb, length, take, drop}
-use Rattle.plain.specs.Choice.{if◌then◌else◌}
+use Rattle.std.specs.Prelude.{ℕ, ◌+◌, ◌-◌, ◌≤◌, ◌<◌, ◌≡◌, Bool, false, ◌&&◌, List, [], ◌∷◌, eqb, length, take, drop, if◌then◌else◌}
 use Rattle.plain.specs.Bytes.{LF, CR}
 use Rattle.text.specs.declared.lines.Cut.{Cut}
 

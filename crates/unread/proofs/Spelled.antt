@@ -7,7 +7,7 @@ use native.Mathlib.Omega.{arith}
 use borrow.Author.Tests.{le-leb, ltb-true}
 use lib.Dec.{eqb, ltb}
 use lib.ListN.{length, drop, get_or}
-use Rattle.plain.specs.Choice.{if◌then◌else◌}
+use Rattle.std.specs.Prelude.{if◌then◌else◌}
 use Rattle.plain.specs.Bytes.{ZERO, NINE, UNDERSCORE, UPPER_A, UPPER_Z, LOWER_A, LOWER_Z, within, digit}
 use Rattle.plain.specs.Lists.{equal}
 use Rattle.plain.specs.Runs.{skip}

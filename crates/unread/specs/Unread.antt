@@ -1,8 +1,7 @@
 -- "loading, removing or re-ordering held texts that contain no statement of any name a given orientation or radii query may read, its system's
 -- angles and degree included, leaves that query's answer the same, its refusals too, as long as the other held texts keep their order and the
 -- pool isn't damaged." The names are those of crate `reads`. Of any build. Definitions only.
-use Rattle.std.specs.Prelude.{ℕ, ◌≡◌, Bool, true, false, List, [], ◌∷◌, ◌++◌, eqb, Float}
-use Rattle.plain.specs.Choice.{if◌then◌else◌}
+use Rattle.std.specs.Prelude.{ℕ, ◌≡◌, Bool, true, false, List, [], ◌∷◌, ◌++◌, eqb, Float, if◌then◌else◌}
 use Rattle.plain.specs.Lists.{equal, Each}
 use Rattle.rotation.specs.Epochs.{in_reach}
 use Rattle.statement.specs.Statements.{Statement}

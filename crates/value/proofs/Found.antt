@@ -12,7 +12,7 @@ use lib.Ieee.{Float}
 use lib.ListN.{length, drop, length-drop}
 use lib.Seq.{drop-drop}
 use Rattle.plain.specs.Bytes.{QUOTE}
-use Rattle.plain.specs.Choice.{if◌then◌else◌}
+use Rattle.std.specs.Prelude.{if◌then◌else◌}
 use Rattle.plain.specs.Runs.{run, past}
 use Rattle.plain.proofs.Tests.{both}
 use Rattle.decimal.specs.Class.{reading}

@@ -2,7 +2,7 @@
 use Prim.Native.Nat.{ℕ}
 use mathlib.Core.Path.{◌≡◌, refl, sym, ap, ◌∙◌}
 use lib.Dec.{eqb}
-use Rattle.plain.specs.Choice.{if◌then◌else◌}
+use Rattle.std.specs.Prelude.{if◌then◌else◌}
 use Rattle.refusal.specs.Numbers.{number_of}
 use Rattle.value.specs.Faults.{refusal_of}
 use Rattle.value.specs.declared.faults.Fault.{Fault}

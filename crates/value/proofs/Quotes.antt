@@ -10,7 +10,7 @@ use lib.Dec.{eqb, ltb}
 use lib.ListN.{length, take, drop, get_or, drop_of_length-le}
 use lib.Seq.{get_or-drop}
 use Rattle.plain.specs.Bytes.{QUOTE}
-use Rattle.plain.specs.Choice.{if◌then◌else◌}
+use Rattle.std.specs.Prelude.{if◌then◌else◌}
 use Rattle.plain.proofs.Each.{Each, each-drop}
 use Rattle.plain.proofs.Runs.{drop-byte}
 use Rattle.value.specs.Classes.{stands}

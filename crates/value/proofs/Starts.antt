@@ -7,7 +7,7 @@ use mathlib.Core.List.{List}
 use lib.Dec.{leb}
 use lib.ListN.{length, drop}
 use Rattle.plain.specs.Bytes.{QUOTE}
-use Rattle.plain.specs.Choice.{if◌then◌else◌}
+use Rattle.std.specs.Prelude.{if◌then◌else◌}
 use Rattle.plain.specs.Runs.{run, past}
 use Rattle.decimal.specs.Class.{reading}
 use Rattle.decimal.specs.declared.Reading.{Reading}

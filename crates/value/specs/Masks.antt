@@ -1,6 +1,5 @@
 -- A class of bytes as bits, which is how the code keeps it. Definitions only.
-use Rattle.std.specs.Prelude.{ℕ, ◌-◌, ◌/◌, ◌%◌, ◌^◌, ◌<◌, ◌≡◌, Bool, eqb, ltb}
-use Rattle.plain.specs.Choice.{if◌then◌else◌}
+use Rattle.std.specs.Prelude.{ℕ, ◌-◌, ◌/◌, ◌%◌, ◌^◌, ◌<◌, ◌≡◌, Bool, eqb, ltb, if◌then◌else◌}
 use Rattle.value.specs.Classes.{is}
 use Rattle.value.specs.declared.classes.Class.{Class}
 use Rattle.value.specs.declared.classes.Mask.{Mask}

@@ -1,7 +1,6 @@
 -- "Admit strings in single quotes, a quote inside written twice, up to 60 bytes after undoubling, on one line .. A blank, comma, bracket
 -- or line end follows the closing quote." Definitions only.
-use Rattle.std.specs.Prelude.{ℕ, ◌+◌, Bool, true, ◌&&◌, not, List, [], ◌∷◌, ◌++◌, eqb, ltb, leb, length, drop, get_or}
-use Rattle.plain.specs.Choice.{if◌then◌else◌}
+use Rattle.std.specs.Prelude.{ℕ, ◌+◌, Bool, true, ◌&&◌, not, List, [], ◌∷◌, ◌++◌, eqb, ltb, leb, length, drop, get_or, if◌then◌else◌}
 use Rattle.plain.specs.Bytes.{QUOTE}
 use Rattle.value.specs.Classes.{value_byte}
 use Rattle.value.specs.declared.faults.Fault.TheVariants as F

@@ -1,6 +1,5 @@
 -- One value at a place of a line: a number, or a string in quotes. Definitions only.
-use Rattle.std.specs.Prelude.{ℕ, List, Float, length, drop}
-use Rattle.plain.specs.Choice.{if◌then◌else◌}
+use Rattle.std.specs.Prelude.{ℕ, List, Float, length, drop, if◌then◌else◌}
 use Rattle.plain.specs.Bytes.{QUOTE}
 use Rattle.plain.specs.Runs.{run, past}
 use Rattle.decimal.specs.Class.{reading}

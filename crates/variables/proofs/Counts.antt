@@ -11,7 +11,7 @@ use lib.Ieee.{Float, binary64, of_bits}
 use lib.ListN.{length, length-map}
 use Rattle.value.specs.Strings.{STRING}
 use Rattle.statement.specs.Statements.{Values, numbers, strings, how_many}
-use Rattle.plain.specs.Choice.{if◌then◌else◌}
+use Rattle.std.specs.Prelude.{if◌then◌else◌}
 use Rattle.plain.proofs.Tests.{true-false}
 use Rattle.plain.proofs.Each.{Each}
 use Rattle.layout.specs.Memory.{cut_strings, cut_values}

@@ -1,9 +1,8 @@
 -- "A successful fetch writes the values from the buffer's start and no further.": whether a variable of an undamaged pool is there, is of
 -- numbers and has room in a buffer, and what is written. Definitions only.
-use Rattle.std.specs.Prelude.{ℕ, ◌≡◌, List, [], ◌∷◌, leb, Float, length}
+use Rattle.std.specs.Prelude.{ℕ, ◌≡◌, List, [], ◌∷◌, leb, Float, length, if◌then◌else◌}
 use Rattle.std.specs.Float.{binary64}
 use Rattle.std.specs.Float.Ieee.{of_bits}
-use Rattle.plain.specs.Choice.{if◌then◌else◌}
 use Rattle.words.specs.Over.{over}
 use Rattle.layout.specs.State.{Pool}
 use Rattle.layout.specs.Memory.{decode}

@@ -1,7 +1,6 @@
 -- "Strings are fetched by place, counted from 1, each to the start of a lent byte buffer, its length told." What is found of the string at a
 -- place of a variable, and what is written. Definitions only.
-use Rattle.std.specs.Prelude.{ℕ, ◌-◌, ◌≡◌, List, [], length, get_or}
-use Rattle.plain.specs.Choice.{if◌then◌else◌}
+use Rattle.std.specs.Prelude.{ℕ, ◌-◌, ◌≡◌, List, [], length, get_or, if◌then◌else◌}
 use Rattle.plain.specs.Bytes.{within}
 use Rattle.layout.specs.State.{Pool}
 use Rattle.layout.specs.Memory.{decode}

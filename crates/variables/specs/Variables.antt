@@ -1,7 +1,6 @@
 -- "a variable is its last direct assignment followed by all later appendings, or all appendings." "Appending may bring both kinds under
 -- one name". Definitions only.
-use Rattle.std.specs.Prelude.{ℕ, Bool, true, false, ◌&&◌, List, [], ◌∷◌, map}
-use Rattle.plain.specs.Choice.{if◌then◌else◌}
+use Rattle.std.specs.Prelude.{ℕ, Bool, true, false, ◌&&◌, List, [], ◌∷◌, map, if◌then◌else◌}
 use Rattle.plain.specs.Lists.{equal}
 use Rattle.statement.specs.Statements.{Values, numbers, strings, Statement}
 use Rattle.statement.specs.declared.head.Operator.{Operator}

@@ -1,6 +1,5 @@
 // "a variable there is the values of the last direct assignment among those texts": where it begins.
-ghost use Rattle.std.specs.Prelude.{◌≡◌, true, ◌/◌, eqb};
-ghost use Rattle.plain.specs.Choice.{if◌then◌else◌};
+ghost use Rattle.std.specs.Prelude.{◌≡◌, true, ◌/◌, eqb, if◌then◌else◌};
 ghost use Rattle.words.specs.Halves.{upper};
 ghost use Rattle.names.specs.Names.{legal};
 ghost use Rattle.layout.specs.Damage.{sound};

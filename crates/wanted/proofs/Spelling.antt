@@ -5,7 +5,7 @@ use Prim.Native.Nat.{ℕ, ◌/◌, ◌%◌, ◌≤◌}
 use native.Mathlib.Omega.{arith}
 use lib.Dec.{ltb}
 use lib.ListN.{length, length-append}
-use Rattle.plain.specs.Choice.{if◌then◌else◌}
+use Rattle.std.specs.Prelude.{if◌then◌else◌}
 use Rattle.statement.specs.Head.{NAME}
 use Rattle.wanted.specs.Names.{SUFFIX, FIGURES, figure, numeral, suffix, name_of}
 use Rattle.wanted.specs.declared.name.Wanted.{Wanted}

@@ -1,8 +1,7 @@
 -- "None of the three present: 10; some missing: 11. BODYn_NUT_PREC_RA, _DEC and _PM may be absent. If any is there,
 -- BODYs_NUT_PREC_ANGLES must be (else 11), s being the hundreds of n, or n itself up to 10"; "Angles then come in groups of degree plus one
 -- coefficients, .. at most 32 groups. .. 12 asks whole groups and enough of them." Definitions only.
-use Rattle.std.specs.Prelude.{ℕ, ◌+◌, ◌%◌, max, Bool, true, ◌&&◌, ◌||◌, not, List, [], leb, eqb, Float, length, get_or}
-use Rattle.plain.specs.Choice.{if◌then◌else◌}
+use Rattle.std.specs.Prelude.{ℕ, ◌+◌, ◌%◌, max, Bool, true, ◌&&◌, ◌||◌, not, List, [], leb, eqb, Float, length, get_or, if◌then◌else◌}
 use Rattle.plain.specs.Bytes.{within}
 use Rattle.plain.specs.Doubles.{nought}
 use Rattle.rotation.specs.Elements.{GROUPS, groups}

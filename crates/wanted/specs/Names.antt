@@ -1,7 +1,6 @@
 -- "With n the code, the variables are BODYn_POLE_RA, BODYn_POLE_DEC, BODYn_PM .. BODYn_NUT_PREC_RA, _DEC and _PM ..
 -- BODYs_NUT_PREC_ANGLES .. BODYn_RADII", "BODYs_MAX_PHASE_DEGREE": their bytes. Definitions only.
-use Rattle.std.specs.Prelude.{ℕ, ◌+◌, ◌/◌, ◌%◌, List, [], ◌∷◌, ◌++◌, ltb}
-use Rattle.plain.specs.Choice.{if◌then◌else◌}
+use Rattle.std.specs.Prelude.{ℕ, ◌+◌, ◌/◌, ◌%◌, List, [], ◌∷◌, ◌++◌, ltb, if◌then◌else◌}
 use Rattle.plain.specs.Bytes.{ZERO}
 use Rattle.plain.specs.Ascii.{ascii}
 use Rattle.wanted.specs.declared.name.Wanted.{Wanted}

@@ -1,7 +1,6 @@
 -- The answer step by step, over what was found: a variable in a buffer, a polynomial, and the three of pole and meridian together.
 -- Definitions only.
-use Rattle.std.specs.Prelude.{ℕ, ◌≤◌, ◌≡◌, Bool, true, false, List, Float, length}
-use Rattle.plain.specs.Choice.{if◌then◌else◌}
+use Rattle.std.specs.Prelude.{ℕ, ◌≤◌, ◌≡◌, Bool, true, false, List, Float, length, if◌then◌else◌}
 use Rattle.layout.specs.Memory.{decode}
 use Rattle.layout.specs.Damage.{sound}
 use Rattle.variables.specs.Found.{fitted, filled}

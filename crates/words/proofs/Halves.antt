@@ -8,7 +8,7 @@ use native.Mathlib.Omega.{arith}
 use borrow.Author.Tests.{le-ltb, ltb-false, ne_eqb, eqb-false}
 use lib.Dec.{eqb, ltb}
 use lib.ListN.{length, take, drop, get_or}
-use Rattle.plain.specs.Choice.{if◌then◌else◌}
+use Rattle.std.specs.Prelude.{if◌then◌else◌}
 use Rattle.words.specs.Halves.{HALF, upper, lower, joined, sum, place, distinct}
 use Rattle.plain.proofs.Tests.{not-then}
 use Rattle.plain.proofs.Each.{Each, each-without}

@@ -8,7 +8,7 @@ use borrow.Author.Tests.{ltb-true}
 use lib.Dec.{ltb}
 use lib.ListN.{length}
 use Rattle.plain.specs.Bytes.{PLUS, EQUALS, within}
-use Rattle.plain.specs.Choice.{if◌then◌else◌}
+use Rattle.std.specs.Prelude.{if◌then◌else◌}
 use Rattle.plain.specs.Runs.{past}
 use Rattle.plain.proofs.Places.{past_after, past-within}
 use Rattle.value.specs.Classes.{blank, name_byte, stands}

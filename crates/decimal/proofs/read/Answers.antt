@@ -5,7 +5,7 @@ use mathlib.Core.Bool.{Bool}
 use mathlib.Core.List.{List}
 use lib.IntN.{pos, ◌-ℤ◌}
 use lib.ListN.{drop}
-use Rattle.plain.specs.Choice.{if◌then◌else◌}
+use Rattle.std.specs.Prelude.{if◌then◌else◌}
 use Rattle.plain.specs.Bytes.{digit}
 use Rattle.plain.specs.Runs.{run, skip}
 use Rattle.decimal.specs.Form.{number, broken, minus, scaled, pointed, written}

@@ -7,7 +7,7 @@ use native.Mathlib.Nat.{zero-add}
 use borrow.Author.Tests.{lt-leb, le-leb}
 use lib.Dec.{eqb, leb, eqb-zero-suc, eqb-suc-suc}
 use lib.ListN.{length}
-use Rattle.plain.specs.Choice.{if◌then◌else◌}
+use Rattle.std.specs.Prelude.{if◌then◌else◌}
 use Rattle.plain.specs.Runs.{run, past}
 use Rattle.value.specs.Classes.{name_byte}
 use Rattle.statement.specs.Head.{NAME}
