@@ -27,7 +27,7 @@ fn refused(rt: &impl Print, fault: Fault, line: usize, at: usize) -> io::Result<
     let refusal = faults::refusal_of(fault);
     print::field(rt, refusal::number(refusal) as u64)?;
     print::field(rt, line as u64)?;
-    print::field(rt, (at as u64).wrapping_add(1))?;
+    print::field(rt, std::num::wrapping_add_u64(at as u64, 1))?;
     print::field(rt, 0)?;
     print::field(rt, 0)
 }
