@@ -14,7 +14,7 @@ use Rattle.angle.specs.Wrap.{turn, plus_zero, kept, lifted, wrapped}
 use Rattle.angle.specs.Range.{InTurn}
 use Rattle.angle.proofs.Range.{BelowTurn, below-turn, not-below-nought, wrapped-in-turn}
 
-remainder-itself : (x : Float) → T (fits binary64 x) → BelowTurn x → remainder x turn ≡ x
+pub remainder-itself : (x : Float) → T (fits binary64 x) → BelowTurn x → remainder x turn ≡ x
 unfolding printed round rem
 remainder-itself nan f h = absurd h
 remainder-itself (inf s) f h = absurd h

@@ -2,3 +2,6 @@
 pub mod Range
 pub mod Itself
 pub mod Sizes
+-- For the code of the remainder.
+mod Halving
+mod Sides

@@ -2,11 +2,13 @@
 ghost use Rattle.std.specs.Prelude.{◌≡◌};
 ghost use Rattle.angle.specs.Wrap.{wrapped, kept};
 
+use super::remainder::remainder_of_turn;
+
 // x brought into 0 up to 360.
 pub fn wrap(x: f64) -> f64
     ensures { result ≡ wrapped x }
 {
-    let r = x % 360.0;
+    let r = remainder_of_turn(x);
     if r < 0.0 {
         return keep(r + 360.0);
     }

@@ -6,8 +6,8 @@ use Rattle.angle.proofs.wrap.wrap.Goals as goal
 
 pub returns-then-r : goal.returns-then-r
 unfolding wrapped printed round of_bits
-returns-then-r c = rw c.if-r.true c.keep.ensures
+returns-then-r c = rw (← c.remainder_of_turn-r.ensures, c.if-r.true) c.keep.ensures
 
 pub returns : goal.returns
 unfolding wrapped printed round of_bits
-returns c = rw c.if-r.false c.keep-2.ensures
+returns c = rw (← c.remainder_of_turn-r.ensures, c.if-r.false) c.keep-2.ensures
