@@ -29,8 +29,8 @@
  *
  * Arithmetic. The values are fixed to the last bit; a number of a text is the double nearest to it,
  * and of two that are as near the one with the even significand. For that the caller owes the
- * default rounding, to nearest; that small numbers are not flushed to zero, as linking with
- * -ffast-math may have it; and a C library whose fmod is exact.
+ * default rounding, to nearest, and that small numbers are not flushed to zero, as linking with
+ * -ffast-math may have it.
  *
  * Epochs are TDB seconds past J2000, which is JD 2451545.0 TDB (source document 001). Body codes
  * are NAIF codes; those with a meaning here are 1 to 10 and 100 to 999. A negative code, passed as
