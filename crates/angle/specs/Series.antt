@@ -1,8 +1,6 @@
 -- "a nested series closes from its innermost term: q = 1, then q = 1 − (z / p)·q for each p." Definitions only.
 use Rattle.std.specs.Prelude.{List, [], ◌∷◌, ℕ, ◌-◌, Float, length, drop}
 use Rattle.plain.specs.Doubles.{◌⊖◌, ◌⊗◌, ◌⊘◌, printed, one}
-use Rattle.angle.specs.declared.series.Series.{Series}
-use Rattle.angle.specs.declared.series.Series.TheVariants as S
 
 -- the series from q on, over the divisors that remain
 unfoldable pub closing : (z q : Float) → List Float → Float
@@ -17,10 +15,6 @@ sine_divisors = printed 210 0 ∷ printed 156 0 ∷ printed 110 0 ∷ printed 72
 abbrev pub cosine_divisors : List Float
 cosine_divisors =
     printed 240 0 ∷ printed 182 0 ∷ printed 132 0 ∷ printed 90 0 ∷ printed 56 0 ∷ printed 30 0 ∷ printed 12 0 ∷ printed 2 0 ∷ []
-
-abbrev pub divisors_of : Series → List Float
-divisors_of S.Sine = sine_divisors
-divisors_of S.Cosine = cosine_divisors
 
 -- the last n of a list, which remain when those before them are taken up
 abbrev pub last : ℕ → List Float → List Float

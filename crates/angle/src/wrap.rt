@@ -20,13 +20,8 @@ pub fn wrap(x: f64) -> f64
 fn keep(r: f64) -> f64
     ensures { result ≡ kept r }
 {
-    if 0.0 <= r {
-        if r < 360.0 {
-            if r == 0.0 {
-                return 0.0;
-            }
-            return r;
-        }
+    if 0.0 < r && r < 360.0 {
+        return r;
     }
     0.0
 }

@@ -1,6 +1,6 @@
 -- `close`, which calls itself, meets its contract: the first divisor is taken up and the rest remain, their number falling.
 -- Assumes nothing.
-use mathlib.Core.Path.{◌≡◌, ap, ◌∙◌}
+use mathlib.Core.Path.{◌≡◌, refl, ap, ◌∙◌}
 use mathlib.Core.List.{List}
 use Prim.Native.Nat.{ℕ, suc, ◌-◌, ◌≤◌, ◌<◌}
 use native.Mathlib.Nat.{sub-zero}
@@ -9,7 +9,7 @@ use lib.Ieee.{Float, nan, of_bits, round}
 use lib.ListN.{length, drop, get_or}
 use lib.Seq.{drop-length, drop-cons}
 use Rattle.plain.specs.Doubles.{◌⊖◌, ◌⊗◌, ◌⊘◌, printed, one}
-use Rattle.angle.specs.Series.{closing, divisors_of, last}
+use Rattle.angle.specs.Series.{closing, last}
 use Rattle.angle.proofs.series.+close.Goals as goal
 
 -- no divisor remains
@@ -27,8 +27,8 @@ taken-up z q p ps n h g e = rw (drop-cons ps (length ps - n) nan (omega arith), 
     next = omega arith
 
 pub returns-then-remaining-eq0 : goal.returns-then-remaining-eq0
-returns-then-remaining-eq0 t c = closed _ _ (divisors_of c.args.series) _ c.if-remaining-eq0.true
+returns-then-remaining-eq0 g t c = closed _ _ c.args.divisors.now _ c.if-remaining-eq0.true
 
 pub returns : goal.returns
 unfolding printed round of_bits
-returns t c = c.close.ensures ∙ taken-up _ _ _ (divisors_of c.args.series) _ (omega arith) c.requires c.divisor-p.ensures
+returns g t c = c.close.ensures ∙ taken-up _ _ _ c.args.divisors.now _ (omega arith) c.requires (rw c.told-divisors refl)

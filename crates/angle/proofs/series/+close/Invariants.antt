@@ -2,4 +2,4 @@
 use Rattle.angle.proofs.series.+close.Given as goal
 
 abbrev pub decreases-close : goal.decreases-close
-decreases-close l = l.remaining
+decreases-close g l = l.remaining
