@@ -7,7 +7,7 @@ use native.Mathlib.Omega.{arith}
 use lib.Dec.{eqb, lit<, lit≤}
 use lib.ListN.{get_or}
 use lib.Ieee.{Float, nan, neg, round}
-use Rattle.std.specs.Prelude.{if◌then◌else◌}
+use Rattle.std.specs.Prelude.{Option, Some, None, Ok, if◌then◌else◌}
 use Rattle.plain.specs.Doubles.{printed}
 use Rattle.plain.specs.Sizes.{Below}
 use Rattle.rotation.specs.Epochs.{in_reach}
@@ -19,14 +19,11 @@ use Rattle.rotation.specs.Finite.{Finite, SmallPolynomial, SmallValues, SmallInp
 use Rattle.rotation.specs.Overflow.{NeverOverflows}
 use Rattle.rotation.specs.declared.elements.Elements.{Elements}
 use Rattle.rotation.specs.declared.matrix.Orientation.{Orientation}
-use Rattle.rotation.specs.declared.matrix.Oriented.TheVariants as O
-use Rattle.rotation.specs.declared.table.Row.{Row}
-use Rattle.rotation.specs.declared.table.Row.TheVariants.{Held, NoRow}
 use Rattle.rotation.proofs.Given.{of-given}
 use Rattle.rotation.proofs.Range.{evaluated-in-range}
 use Rattle.rotation.proofs.Overflow.{never-overflows}
 
-pub builtin-in-range : (n : ℕ) (epoch : Float) (o : Orientation) → builtin_orientation n epoch ≡ O.Given o → InRange o
+pub builtin-in-range : (n : ℕ) (epoch : Float) (o : Orientation) → builtin_orientation n epoch ≡ Ok o → InRange o
 unfolding row_evaluated
 builtin-in-range n epoch o h =
     of-given InRange n epoch o
@@ -38,10 +35,10 @@ record SmallElements (e : Elements) : Type 0 where
   dec : SmallPolynomial e.dec
   pm : SmallPolynomial e.pm
 
-record SmallRow (r : Row) : Type 0 where
-  held : (e : Elements) → r ≡ Held e → SmallElements e
+record SmallRow (r : Option Elements) : Type 0 where
+  held : (e : Elements) → r ≡ Some e → SmallElements e
 
-either-small : {x y : Row} (b : Bool) → SmallRow x → SmallRow y → SmallRow (if b then x else y)
+either-small : {x y : Option Elements} (b : Bool) → SmallRow x → SmallRow y → SmallRow (if b then x else y)
 either-small true p q = p
 either-small false p q = q
 
@@ -50,7 +47,7 @@ unfolding printed round
 straight-small a b = record { c0 = a; c1 = b; c2 = lit< tt }
 
 row_small : (a₀ a₁ d₀ d₁ w₀ w₁ : Float) → Below 200 a₀ → Below 200 a₁ → Below 200 d₀ → Below 200 d₁ → Below 200 w₀ → Below 200 w₁
-    → SmallRow (row a₀ a₁ d₀ d₁ w₀ w₁)
+    → SmallRow (Some (row a₀ a₁ d₀ d₁ w₀ w₁))
 row_small a₀ a₁ d₀ d₁ w₀ w₁ p q r s t u =
     let f : Elements = record { ra = straight a₀ a₁; dec = straight d₀ d₁; pm = straight w₀ w₁ } in
     let g : SmallElements f = record { ra = straight-small p q; dec = straight-small r s; pm = straight-small t u } in
@@ -71,7 +68,7 @@ table-small n =
     (either-small (eqb n 999) (row_small _ _ _ _ _ _ (lit< tt) (lit< tt) (lit< tt) (lit< tt) (lit< tt) (lit< tt))
     no_row)))))))))
   where
-    no_row : SmallRow NoRow
+    no_row : SmallRow None
     no_row = record { held = λ e h. let z : ◌≡◌ {A = ℕ} 0 1 = cc in absurd (omega arith) }
 
 -- ---- Neptune's lists, and none
@@ -121,7 +118,7 @@ straight-input e s =
       for_pm = none-small;
     }
 
-pub row-never-overflows : (n : ℕ) (epoch : Float) (e : Elements) → in_reach epoch ≡ true → row_of n ≡ Held e
+pub row-never-overflows : (n : ℕ) (epoch : Float) (e : Elements) → in_reach epoch ≡ true → row_of n ≡ Some e
     → NeverOverflows e epoch LINEAR (neptunes n neptune_angle) (neptunes n neptune_ra) (neptunes n neptune_dec) (neptunes n neptune_pm)
 row-never-overflows n epoch e r k = by (eqb n 899)
   where
@@ -133,6 +130,6 @@ row-never-overflows n epoch e r k = by (eqb n 899)
     by true = never-overflows e epoch LINEAR neptune_angle neptune_ra neptune_dec neptune_pm r (neptune-input e s)
     by false = never-overflows e epoch LINEAR [] [] [] [] r (straight-input e s)
 
-pub builtin-finite : (n : ℕ) (epoch : Float) (o : Orientation) → builtin_orientation n epoch ≡ O.Given o → Finite o
+pub builtin-finite : (n : ℕ) (epoch : Float) (o : Orientation) → builtin_orientation n epoch ≡ Ok o → Finite o
 unfolding row_evaluated
 builtin-finite n epoch o h = of-given Finite n epoch o (λ r e k. (row-never-overflows n epoch e r k).answer) h

@@ -11,11 +11,14 @@ use Rattle.rotation.specs.declared.epoch.Centuries.{Centuries}
 use Rattle.rotation.specs.declared.elements.Polynomial.{Polynomial}
 use Rattle.rotation.specs.declared.nutation.Sums.{Sums}
 
+abbrev pub value_at : Polynomial → Float → Float
+value_at p x = p.c0 ⊕ x ⊗ (p.c1 ⊕ x ⊗ p.c2)
+
 abbrev pub by_century : Polynomial → Centuries → Float
-by_century p t = p.c0 ⊕ t.0 ⊗ (p.c1 ⊕ t.0 ⊗ p.c2)
+by_century p t = value_at p t.0
 
 abbrev pub by_day : Polynomial → Days → Float
-by_day p d = p.c0 ⊕ d.0 ⊗ (p.c1 ⊕ d.0 ⊗ p.c2)
+by_day p d = value_at p d.0
 
 -- the two parts of a pair
 abbrev pub sine : SineCosine → Float

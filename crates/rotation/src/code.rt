@@ -2,20 +2,14 @@
 ghost use Rattle.std.specs.Prelude.{◌≡◌};
 ghost use Rattle.rotation.specs.Codes.{system_of};
 
-// The angle system of a body's code.
-#[derive(Clone, Copy)]
-pub enum System {
-    Of(u32),
-    Nowhere,
-}
-
-// The hundreds of a code, or the code itself up to 10.
-pub fn system_of(code: u32) -> System
+// The angle system of a body's code: the hundreds of the code, or the code itself up to 10.
+#[tactic(auto, using(std::proofs::lemmas::Bool::Decides::nat_tests), unfolding(crate::specs::Codes::system_of))]
+pub fn system_of(code: u32) -> Option<u32>
     ensures { result ≡ system_of code }
 {
     match code {
-        1..=10 => System::Of(code),
-        100..=999 => System::Of(code / 100),
-        _ => System::Nowhere,
+        1..=10 => Some(code),
+        100..=999 => Some(code / 100),
+        _ => None,
     }
 }

@@ -1,8 +1,8 @@
 // Rotational elements: three polynomials, of which the first two are in centuries and the third is in days.
 ghost use Rattle.std.specs.Prelude.{◌≡◌};
-ghost use Rattle.rotation.specs.Elements.{by_century, by_day};
+ghost use Rattle.rotation.specs.Elements.{value_at};
 
-use super::epoch::{Centuries, Days};
+use super::epoch::Elapsed;
 
 // c0 + x * (c1 + x * c2).
 #[derive(Clone, Copy)]
@@ -20,14 +20,12 @@ pub struct Elements {
     pub pm: Polynomial,
 }
 
-pub fn by_century(p: Polynomial, t: Centuries) -> f64
-    ensures { result ≡ by_century p t }
-{
-    p.c0 + t.0 * (p.c1 + t.0 * p.c2)
-}
-
-pub fn by_day(p: Polynomial, d: Days) -> f64
-    ensures { result ≡ by_day p d }
-{
-    p.c0 + d.0 * (p.c1 + d.0 * p.c2)
+impl Polynomial {
+    // The value after a span of time, in the unit that the rates are for.
+    pub fn at<T: Elapsed>(self, span: T) -> f64
+        ensures { result ≡ value_at self (T.amount span) }
+    {
+        let x = span.amount();
+        self.c0 + x * (self.c1 + x * self.c2)
+    }
 }

@@ -2,8 +2,8 @@
 ghost use Rattle.std.specs.Prelude.{◌≡◌};
 ghost use Rattle.rotation.specs.Matrix.{rows, oriented};
 
+use angle::sine::SineCosine;
 use angle::{sine, wrap};
-use refusal::Refusal;
 
 // Pole and meridian in degrees, and the matrix by rows.
 #[derive(Clone, Copy)]
@@ -22,14 +22,8 @@ pub struct Orientation {
     pub m33: f64,
 }
 
-// What a call for an orientation answers.
-#[derive(Clone, Copy)]
-pub enum Oriented {
-    Given(Orientation),
-    Refused(Refusal),
-}
-
 // The record of a right ascension, a declination and a meridian; the first and the last are wrapped.
+#[tactic(auto, unfolding(crate::specs::Matrix::oriented))]
 pub fn orient(ra: f64, dec: f64, w: f64) -> Orientation
     ensures { result ≡ oriented ra dec w }
 {
@@ -38,22 +32,16 @@ pub fn orient(ra: f64, dec: f64, w: f64) -> Orientation
     let a = sine::sine_cosine(pole);
     let d = sine::sine_cosine(dec);
     let m = sine::sine_cosine(meridian);
-    record(pole, dec, meridian, a.0, a.1, d.0, d.1, m.0, m.1)
+    record(pole, dec, meridian, a, d, m)
 }
 
-fn record(
-    ra: f64,
-    dec: f64,
-    w: f64,
-    sa: f64,
-    ca: f64,
-    sd: f64,
-    cd: f64,
-    sw: f64,
-    cw: f64,
-) -> Orientation
-    ensures { result ≡ rows ra dec w sa ca sd cd sw cw }
+// The record by the sines and cosines of right ascension, declination and meridian.
+fn record(ra: f64, dec: f64, w: f64, a: SineCosine, d: SineCosine, m: SineCosine) -> Orientation
+    ensures { result ≡ rows ra dec w a.0 a.1 d.0 d.1 m.0 m.1 }
 {
+    let SineCosine(sa, ca) = a;
+    let SineCosine(sd, cd) = d;
+    let SineCosine(sw, cw) = m;
     Orientation {
         ra,
         dec,

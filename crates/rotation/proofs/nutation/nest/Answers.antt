@@ -1,16 +1,13 @@
 -- `nest` meets its contract: the loop keeps the nested sum from place i of the group on. Assumes nothing.
 use mathlib.Core.Path.{refl}
 use native.Mathlib.Omega.{arith}
-use Rattle.rotation.proofs.Nested.{nested-last, nested-before, nested-whole}
+use Rattle.rotation.proofs.Nested.{nested-last, nested-before}
 use Rattle.rotation.proofs.nutation.nest.Goals as goal
 
 pub loop-i-init : goal.loop-i-init
-loop-i-init c = (omega arith, omega arith, nested-last _ _ _ _)
+loop-i-init c = nested-last _ _ _ _
 
 pub loop-i-preserved : goal.loop-i-preserved
 loop-i-preserved c =
     let l = c.loop-i in
-    (l.invariant.0, omega arith, nested-before _ _ _ l.i _ _ _ (omega arith) l.invariant.1 l.invariant.2 refl)
-
-pub returns : goal.returns
-returns c = let l = c.loop-i in nested-whole _ _ _ l.i _ _ (omega arith) l.invariant.2
+    nested-before _ _ _ l.i _ _ _ (omega arith) l.auto.i l.invariant refl

@@ -1,12 +1,8 @@
 -- `nest` meets its contract: the loop keeps the nested sum from place i of the group on. Assumes nothing.
 use mathlib.Core.Path.{◌≡◌}
-use Prim.Native.Nat.{◌+◌, ◌-◌, ◌≤◌, ◌<◌}
-use lib.ListN.{length}
+use Prim.Native.Nat.{◌+◌, ◌-◌}
 use Rattle.rotation.specs.Elements.{nested}
 use Rattle.rotation.proofs.nutation.nest.Given as goal
 
 abbrev pub invariant-loop-i : goal.invariant-loop-i
-invariant-loop-i l = (l.at + l.more < length l.xs) × (l.i ≤ l.more) × (l.sum ≡ nested l.t l.xs (l.at + l.i) (l.more - l.i))
-
-abbrev pub decreases-loop-i : goal.decreases-loop-i
-decreases-loop-i l = l.i
+invariant-loop-i l = l.sum ≡ nested l.t l.xs (l.at + l.i) (l.more - l.i)

@@ -1,4 +1,6 @@
 -- `size_of` meets its contract: each arm is the row that `size_of` picks by the arm's code. Assumes nothing.
+use mathlib.Core.Path.{ap}
+use Rattle.std.specs.Prelude.{Some}
 use lib.Ieee.{of_bits, round}
 use borrow.Author.Rules.{rules}
 use borrow.Author.Tests.{ne_eqb}
@@ -26,36 +28,36 @@ returns-in_default c =
 
 pub returns-in-199 : goal.returns-in-199
 unfolding size_of printed round of_bits
-returns-in-199 c = arm size_of c.sized.ensures c.in-199.is
+returns-in-199 c = arm size_of (ap Some c.sized.ensures) c.in-199.is
 
 pub returns-in-299 : goal.returns-in-299
 unfolding size_of printed round of_bits
-returns-in-299 c = arm size_of c.sized-in-299.ensures c.in-299.is
+returns-in-299 c = arm size_of (ap Some c.sized-in-299.ensures) c.in-299.is
 
 pub returns-in-399 : goal.returns-in-399
 unfolding size_of printed round of_bits
-returns-in-399 c = arm size_of c.sized-in-399.ensures c.in-399.is
+returns-in-399 c = arm size_of (ap Some c.sized-in-399.ensures) c.in-399.is
 
 pub returns-in-499 : goal.returns-in-499
 unfolding size_of printed round of_bits
-returns-in-499 c = arm size_of c.sized-in-499.ensures c.in-499.is
+returns-in-499 c = arm size_of (ap Some c.sized-in-499.ensures) c.in-499.is
 
 pub returns-in-599 : goal.returns-in-599
 unfolding size_of printed round of_bits
-returns-in-599 c = arm size_of c.sized-in-599.ensures c.in-599.is
+returns-in-599 c = arm size_of (ap Some c.sized-in-599.ensures) c.in-599.is
 
 pub returns-in-699 : goal.returns-in-699
 unfolding size_of printed round of_bits
-returns-in-699 c = arm size_of c.sized-in-699.ensures c.in-699.is
+returns-in-699 c = arm size_of (ap Some c.sized-in-699.ensures) c.in-699.is
 
 pub returns-in-799 : goal.returns-in-799
 unfolding size_of printed round of_bits
-returns-in-799 c = arm size_of c.sized-in-799.ensures c.in-799.is
+returns-in-799 c = arm size_of (ap Some c.sized-in-799.ensures) c.in-799.is
 
 pub returns-in-899 : goal.returns-in-899
 unfolding size_of printed round of_bits
-returns-in-899 c = arm size_of c.sized-in-899.ensures c.in-899.is
+returns-in-899 c = arm size_of (ap Some c.sized-in-899.ensures) c.in-899.is
 
 pub returns-in-999 : goal.returns-in-999
 unfolding size_of printed round of_bits
-returns-in-999 c = arm size_of c.sized-in-999.ensures c.in-999.is
+returns-in-999 c = arm size_of (ap Some c.sized-in-999.ensures) c.in-999.is
