@@ -5,6 +5,8 @@ ghost use Rattle.std.specs.Float.Ieee.{round};
 ghost use Rattle.std.specs.Float.Ieee.Nearest.{closest};
 ghost use Rattle.rounding.specs.Leading.{Moved};
 
+use std::cmp::Ordering;
+
 // 2^52, the weight of the exponent in a double's bits.
 const PLACE: u64 = 4503599627370496;
 
@@ -36,11 +38,9 @@ fn kept(n: u64, k: u64) -> u64
     let unit = 1u64 << k;
     let whole = n / unit;
     let twice = n % unit * 2;
-    if twice < unit {
-        return whole;
+    match twice.cmp(&unit) {
+        Ordering::Less => whole,
+        Ordering::Equal => whole + whole % 2,
+        Ordering::Greater => whole + 1,
     }
-    if twice == unit {
-        return whole + whole % 2;
-    }
-    whole + 1
 }

@@ -2,7 +2,7 @@
 ghost use Rattle.std.specs.Prelude.{◌≡◌, ◌+◌, ◌*◌, ◌^◌, ◌≤◌, ◌<◌};
 ghost use Rattle.rounding.specs.Leading.{some, sticky, Further};
 
-// 2^32, so that products of what is below it fit.
+// 2^32, so that products of what is below it fit. That of crate `words` is no plainer to use: rounding would stand on a crate for one number.
 const HALF: u64 = 4294967296;
 
 // 2^26: the digits by which a quotient goes further at once.
@@ -15,7 +15,7 @@ pub(crate) struct Part {
     pub(crate) rest: u64,
 }
 
-// The leading digits of u · v / 2^64, and whether anything is left.
+// The leading digits of u · v / 2^64, and whether anything is left. By halves, and no u128: `carry_lost` loses the carry between these columns.
 pub(crate) fn product(u: u64, v: u64) -> u64
     requires { v < 2 ^ 62 }
     ensures { result ≡ sticky (u * v) (2 ^ 64) }
@@ -33,7 +33,7 @@ pub(crate) fn product(u: u64, v: u64) -> u64
     )
 }
 
-// The leading digits of w · 2^52 / d, and whether anything is left.
+// The leading digits of w · 2^52 / d, and whether anything is left. By steps, and no u128: `one_digit_too_few` leaves out what a step adds.
 pub(crate) fn quotient(w: u64, d: u64) -> u64
     requires { (2 ^ 55 ≤ d) × (d < 2 ^ 56) }
     ensures { result ≡ sticky (w * 2 ^ 52) d }
@@ -69,5 +69,5 @@ fn mark(whole: u64, rest: u64) -> u64
     requires { whole < 2 ^ 63 }
     ensures { result ≡ whole * 2 + some rest }
 {
-    if rest == 0 { whole * 2 } else { whole * 2 + 1 }
+    whole * 2 + u64::from(rest != 0)
 }

@@ -7,7 +7,7 @@ use native.Mathlib.Omega.{arith}
 use borrow.Author.Tests.{le-ltb}
 use lib.Dec.{T}
 use lib.Pow.{pow_pos}
-use lib.Count.{count_leading_zeros, leading_le}
+use lib.Count.{count_leading_zeros}
 use lib.Ieee.{binary64, size, round, of_bits, nan_bits}
 use lib.Ieee.Bits.{nan_bits_above}
 use lib.Ieee.Nearest.{closest}
@@ -34,9 +34,6 @@ module _ (n : ℕ) (N : 2 ^ 54 ≤ n) (M : n < 2 ^ 64) where
 
 no_nan : (b : ℕ) → b ≤ 2047 * PLACE → T (not (nan_bits binary64 b))
 no_nan b h = rw (nan_bits_above binary64 b, le-ltb (2047 * PLACE) (b % 2 ^ 63) (omega arith)) tt
-
-pub overflow_cast-dropped : goal.overflow_cast-dropped
-overflow_cast-dropped c = omega (arith, leading_le 64 c.args.n)
 
 pub overflow_sub-dropped : goal.overflow_sub-dropped
 overflow_sub-dropped c = omega (arith, zeros-most c.args.n c.requires.0 c.ranges.n.fits)

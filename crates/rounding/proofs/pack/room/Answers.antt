@@ -4,7 +4,7 @@ use mathlib.Core.Path.{◌≡◌, ap, subst, ◌∙◌}
 use native.Mathlib.Nat.{le_trans, le_of_eq, mul-le-mul_right}
 use native.Mathlib.Omega.{arith}
 use lib.Pow.{pow-add, shl_lt}
-use lib.Count.{count_leading_zeros, leading_le}
+use lib.Count.{count_leading_zeros}
 use lib.Ieee.{size}
 use lib.Ieee.Digits.{size-lt, size-le, size_reaches}
 use Rattle.plain.proofs.Scaling.{size_above, size-zeros}
@@ -31,9 +31,6 @@ module _ (x free : ℕ) (X : 0 < x) (F : free ≤ 63) (S : x < 2 ^ (64 - free)) 
         most = subst (λ (n : ℕ). x * 2 ^ shift < 2 ^ n) high (shl_lt z shift (size-lt x));
         short = omega arith;
       }
-
-pub overflow_cast-result : goal.overflow_cast-result
-overflow_cast-result c = omega (arith, leading_le 64 c.args.x)
 
 pub overflow_sub-result : goal.overflow_sub-result
 overflow_sub-result c = enough c.args.x c.args.free c.requires.0 c.requires.1 c.requires.2 c.ranges.x.fits

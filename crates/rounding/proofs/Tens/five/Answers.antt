@@ -6,7 +6,7 @@ use native.Mathlib.Omega.{arith}
 use lib.Dec.{lit<}
 use lib.Pow.{pow-add}
 use Rattle.rounding.specs.Exact.{STEEPEST}
-use Rattle.rounding.proofs.power.five.Goals as goal
+use Rattle.rounding.proofs.Tens.five.Goals as goal
 
 pow-square : (b i : ℕ) → (b * b) ^ i ≡ b ^ i * b ^ i
 pow-square b zero = simp pow-zero
@@ -34,35 +34,35 @@ module _ (k n b i : ℕ) (l : Left k n b i) where
 first : (k : ℕ) → Left k 1 5 k
 first k = one-mul (5 ^ k)
 
-second : (c : goal.After-square-n) → let k = c.args.k in Left k c.square-n.result 25 (k / 2)
+second : (c : goal.After-square-n) → let k = c.args.self.k in Left k c.square-n.result 25 (k / 2)
 second c = next _ 1 5 _ (first _) _ _ c.square-n.ensures refl
 
-third : (c : goal.After-square-n-2) → let k = c.args.k in Left k c.square-n-2.result 625 (k / 4)
+third : (c : goal.After-square-n-2) → let k = c.args.self.k in Left k c.square-n-2.result 625 (k / 4)
 third c = next _ _ 25 _ (second c.before) _ _ c.square-n-2.ensures (omega arith)
 
-fourth : (c : goal.After-square-n-3) → let k = c.args.k in Left k c.square-n-3.result 390625 (k / 8)
+fourth : (c : goal.After-square-n-3) → let k = c.args.self.k in Left k c.square-n-3.result 390625 (k / 8)
 fourth c = next _ _ 625 _ (third c.before) _ _ c.square-n-3.ensures (omega arith)
 
-fifth : (c : goal.After-square-n-4) → let k = c.args.k in Left k c.square-n-4.result 152587890625 (k / 16)
+fifth : (c : goal.After-square-n-4) → let k = c.args.self.k in Left k c.square-n-4.result 152587890625 (k / 16)
 fifth c = next _ _ 390625 _ (fourth c.before) _ _ c.square-n-4.ensures (omega arith)
 
 pub square-n-requires : goal.square-n-requires
-square-n-requires c = fits c.args.k 1 5 c.args.k (first c.args.k) (lit< tt) c.requires
+square-n-requires c = fits c.args.self.k 1 5 c.args.self.k (first c.args.self.k) (lit< tt) c.args.self.small
 
 pub square-n-requires-2 : goal.square-n-requires-2
-square-n-requires-2 c = fits _ _ 25 _ (second c) (lit< tt) c.requires
+square-n-requires-2 c = fits _ _ 25 _ (second c) (lit< tt) c.args.self.small
 
 pub square-n-requires-3 : goal.square-n-requires-3
-square-n-requires-3 c = fits _ _ 625 _ (third c) (lit< tt) c.requires
+square-n-requires-3 c = fits _ _ 625 _ (third c) (lit< tt) c.args.self.small
 
 pub square-n-requires-4 : goal.square-n-requires-4
-square-n-requires-4 c = fits _ _ 390625 _ (fourth c) (lit< tt) c.requires
+square-n-requires-4 c = fits _ _ 390625 _ (fourth c) (lit< tt) c.args.self.small
 
 pub square-requires : goal.square-requires
-square-requires c = fits _ _ 152587890625 _ (fifth c) (lit< tt) c.requires
+square-requires c = fits _ _ 152587890625 _ (fifth c) (lit< tt) c.args.self.small
 
 -- of the fifth digit nothing is left
 pub returns : goal.returns
 returns c =
-    let e : c.args.k / 16 % 2 ≡ c.args.k / 16 = omega (arith, c.requires) in
+    let e : c.args.self.k / 16 % 2 ≡ c.args.self.k / 16 = omega (arith, c.args.self.small) in
     c.square.ensures ∙ ap (λ (i : ℕ). c.square-n-4.result * 152587890625 ^ i) e ∙ fifth c.before

@@ -2,15 +2,15 @@
 use mathlib.Core.Path.{◌∙◌}
 use native.Mathlib.Omega.{arith}
 use Rattle.rounding.proofs.Leading.{fives-fit, least-over, rounds-over}
-use Rattle.rounding.proofs.long_over.Goals as goal
+use Rattle.rounding.proofs.Tens.long_over.Goals as goal
 
 pub room-b-requires : goal.room-b-requires
-room-b-requires c = omega (arith, fives-fit c.requires.1 c.five-n.ensures)
+room-b-requires c = omega (arith, fives-fit c.args.self.small c.five-n.ensures)
 
 pub pack-requires : goal.pack-requires
 pack-requires c =
-    (rw c.quotient.ensures (least-over c.requires.1 c.five-n.ensures c.room-a.ensures c.room-b.ensures), omega arith)
+    (rw c.quotient.ensures (least-over c.args.self.small c.five-n.ensures c.room-a.ensures c.room-b.ensures), omega arith)
 
 pub returns : goal.returns
 returns c =
-    c.pack.ensures ∙ rw c.quotient.ensures (rounds-over c.requires.1 c.five-n.ensures c.room-a.ensures c.room-b.ensures)
+    c.pack.ensures ∙ rw c.quotient.ensures (rounds-over c.args.self.small c.five-n.ensures c.room-a.ensures c.room-b.ensures)

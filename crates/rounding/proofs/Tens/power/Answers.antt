@@ -9,7 +9,7 @@ use Rattle.plain.specs.Doubles.{◌⊗◌}
 use Rattle.plain.proofs.Products.{mul-of-values}
 use Rattle.rounding.specs.Exact.{STEEPEST, LARGEST, double}
 use Rattle.rounding.proofs.Exact.{whole-exact, ten-pow}
-use Rattle.rounding.proofs.power.power.Goals as goal
+use Rattle.rounding.proofs.Tens.power.Goals as goal
 
 module _ (k : ℕ) (K : k ≤ STEEPEST) where
   five-most : 5 ^ k ≤ LARGEST
@@ -30,11 +30,11 @@ module _ (k : ℕ) (K : k ≤ STEEPEST) where
 
 pub int_to_float-result : goal.int_to_float-result
 unfolding in_float
-int_to_float-result c = le→leb _ _ (le_trans (le_of_eq c.five.ensures) (five-most c.args.k c.requires))
+int_to_float-result c = le→leb _ _ (le_trans (le_of_eq c.five.ensures) (five-most c.args.self.k c.args.self.small))
 
 pub int_to_float-result-2 : goal.int_to_float-result-2
 unfolding in_float
-int_to_float-result-2 c = le→leb _ _ (le_trans (le_of_eq (two_is c.args.k c.requires)) (two-most c.args.k c.requires))
+int_to_float-result-2 c = le→leb _ _ (le_trans (le_of_eq (two_is c.args.self.k c.args.self.small)) (two-most c.args.self.k c.args.self.small))
 
 pub returns : goal.returns
-returns c = ten-is c.args.k c.requires c.five.result c.five.ensures
+returns c = ten-is c.args.self.k c.args.self.small c.five.result c.five.ensures
