@@ -1,47 +1,27 @@
 -- What a number is worth, by the tests of the class; numbers that are alike are worth the same. Assumes nothing.
-use Prim.Native.Nat.{ℕ, suc, ◌+◌, ◌-◌, ◌*◌, ◌^◌, ◌≤◌, ◌<◌}
+use Prim.Native.Nat.{ℕ, ◌+◌, ◌-◌, ◌≤◌, ◌<◌}
 use mathlib.Core.Path.{◌≡◌, ap, sym, ◌∙◌}
 use mathlib.Core.Logic.{inl, inr}
 use mathlib.Core.Bool.{Bool, true, false, and-false}
 use native.Mathlib.Omega.{arith}
 use lib.IntN.{ℤ, pos, nat_abs, ◌-ℤ◌}
-use lib.Ieee.{binary64, round}
-use borrow.Author.Tests.{le-leb, lt-leb, lt-ltb, le-ltb}
+use borrow.Author.Tests.{lt-leb, le-ltb}
 use Rattle.std.specs.Prelude.{if◌then◌else◌}
 use Rattle.refusal.specs.declared.Refusal.TheVariants as R
 use Rattle.rounding.specs.Exact.{STEEPEST}
 use Rattle.decimal.specs.Form.{Written, number}
-use Rattle.decimal.specs.Class.{FAR, scaled_by, signed, valued}
+use Rattle.decimal.specs.Class.{FAR, valued}
 use Rattle.decimal.specs.Parts.{Alike}
-use Rattle.decimal.specs.declared.Reading.TheVariants.{Number, OutsideClass}
-use Rattle.decimal.proofs.Exponents.{difference-up, difference-down, difference-size}
+use Rattle.decimal.specs.declared.Reading.TheVariants.{OutsideClass}
+use Rattle.decimal.proofs.Exponents.{difference-size}
 
 module _ (m : Bool) (w : ℕ) where
   pub valued-large : (k : ℤ) → FAR ≤ w → valued (number m w k) ≡ OutsideClass R.Number
   valued-large k h = simp (le-ltb w FAR h)
 
-  valued-inside : (k : ℤ) → w < FAR → nat_abs k ≤ STEEPEST → valued (number m w k) ≡ Number (signed m (scaled_by w k))
-  valued-inside k h g = simp (lt-ltb w FAR h, le-leb (nat_abs k) STEEPEST g)
-
   module _ (up down : ℕ) where
     pub valued-steep : STEEPEST < (up - down) + (down - up) → valued (number m w (pos up -ℤ pos down)) ≡ OutsideClass R.Number
     valued-steep h = simp (lt-leb (nat_abs (pos up -ℤ pos down)) STEEPEST (omega (arith, difference-size up down)), and-false)
-
-    pub valued-over : (k : ℕ) → k ≡ (up - down) + (down - up) → w < FAR → k ≤ STEEPEST → up < down
-        → valued (number m w (pos up -ℤ pos down)) ≡ Number (signed m (round binary64 false w (10 ^ k)))
-    valued-over k e h g l =
-        let j : suc (down - suc up) ≡ k = omega arith in
-        valued-inside (pos up -ℤ pos down) h (omega (arith, difference-size up down))
-        ∙ ap (λ (z : ℤ). Number (signed m (scaled_by w z))) (difference-down up down l)
-        ∙ ap (λ (n : ℕ). Number (signed m (round binary64 false w (10 ^ n)))) j
-
-    pub valued-times : (k : ℕ) → k ≡ (up - down) + (down - up) → w < FAR → k ≤ STEEPEST → down ≤ up
-        → valued (number m w (pos up -ℤ pos down)) ≡ Number (signed m (round binary64 false (w * 10 ^ k) 1))
-    valued-times k e h g l =
-        let j : up - down ≡ k = omega arith in
-        valued-inside (pos up -ℤ pos down) h (omega (arith, difference-size up down))
-        ∙ ap (λ (z : ℤ). Number (signed m (scaled_by w z))) (difference-up up down l)
-        ∙ ap (λ (n : ℕ). Number (signed m (round binary64 false (w * 10 ^ n) 1))) j
 
   -- an exponent that is too large for the class is so however many digits follow the point
   pub alike-up : (x y places : ℕ) → places + STEEPEST < FAR → Alike x y → valued (number m w (pos x -ℤ pos places)) ≡ valued (number m w (pos y -ℤ pos places))

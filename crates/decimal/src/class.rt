@@ -1,15 +1,12 @@
 // The class and the double of a number in it: document 01, "either a number in the class or a refusal".
-ghost use Rattle.std.specs.Prelude.{◌≡◌, ◌+◌, ◌-◌, pos, ◌-ℤ◌};
+ghost use Rattle.std.specs.Prelude.{◌≡◌, pos, ◌-ℤ◌};
 ghost use Rattle.decimal.specs.Form.{number};
 ghost use Rattle.decimal.specs.Class.{signed, valued};
 
 use super::Reading;
 use super::digits::FAR;
 use refusal::Refusal;
-use rounding::{over, times};
-
-// The largest size of k, up to which every power of ten is a double.
-const STEEPEST: u64 = 22;
+use rounding::Tens;
 
 // The double nearest to w · 10^k, then negated for a minus. k is `up` less `down`.
 pub(crate) fn scale(minus: bool, w: u64, up: u64, down: u64) -> Reading
@@ -18,21 +15,14 @@ pub(crate) fn scale(minus: bool, w: u64, up: u64, down: u64) -> Reading
     if w >= FAR {
         return Reading::OutsideClass(Refusal::Number);
     }
-    let k = distance(up, down);
-    if k > STEEPEST {
+    let k = up.abs_diff(down);
+    let Some(tens) = Tens::of(k) else {
         return Reading::OutsideClass(Refusal::Number);
-    }
+    };
     if up < down {
-        return Reading::Number(negate_for(minus, over(w, k)));
+        return Reading::Number(negate_for(minus, tens.over(w)));
     }
-    Reading::Number(negate_for(minus, times(w, k)))
-}
-
-// The larger less the smaller.
-fn distance(a: u64, b: u64) -> u64
-    ensures { result ≡ (a - b) + (b - a) }
-{
-    if a < b { b - a } else { a - b }
+    Reading::Number(negate_for(minus, tens.times(w)))
 }
 
 // Negated for a minus. The sign is flipped, so that a zero with a minus is −0.
