@@ -12,7 +12,7 @@ use lib.Ieee.{Float}
 use lib.ListN.{length, drop, length-drop}
 use lib.Seq.{drop-drop}
 use Rattle.plain.specs.Bytes.{QUOTE}
-use Rattle.std.specs.Prelude.{if◌then◌else◌}
+use Rattle.std.specs.Prelude.{Ok, Err, if◌then◌else◌}
 use Rattle.plain.specs.Runs.{run, past}
 use Rattle.plain.proofs.Tests.{both}
 use Rattle.decimal.specs.Class.{reading}
@@ -20,8 +20,10 @@ use Rattle.decimal.specs.declared.Reading.{Reading}
 use Rattle.decimal.specs.declared.Reading.TheVariants as D
 use Rattle.decimal.proofs.Bounded.{reading-empty}
 use Rattle.value.specs.Classes.{value_byte, stands}
+use Rattle.value.specs.Faults.{faulty}
 use Rattle.value.specs.Strings.{STRING, Scanned, closed, unclosed, preceding, scanned, contents, undoubled, followed, enclosed, closing, string_at}
-use Rattle.value.specs.Value.{told, number_at, value_at}
+use Rattle.value.specs.Value.{bytes_in, value_of, long_of, told, number_at, value_at}
+use Rattle.value.specs.declared.Word.{Word}
 use Rattle.value.specs.declared.faults.Fault.TheVariants as F
 use Rattle.value.specs.declared.Word.TheVariants as W
 
@@ -73,16 +75,16 @@ pub record StringRead (line : List ℕ) (s n k : ℕ) : Type 0 where
   pub takes : s + n + 2 ≤ k
   pub stays : k ≤ length line
 
-from-fitting : (t : Bool) (i a b s n k : ℕ) → (if t then W.String i a b else W.Fault F.BadValue i) ≡ W.String s n k → (t ≡ true) × (i ≡ s) × (a ≡ n) × (b ≡ k)
+from-fitting : (t : Bool) (i a b s n k : ℕ) → (if t then Ok (W.String i a b) else Err (faulty F.BadValue i)) ≡ Ok (W.String s n k) → (t ≡ true) × (i ≡ s) × (a ≡ n) × (b ≡ k)
 from-fitting true i a b s n k e = (refl, cc, cc, cc)
 from-fitting false i a b s n k e = let z : ◌≡◌ {A = ℕ} 0 1 = cc in absurd (omega arith)
 
 module _ (line : List ℕ) (i s n k : ℕ) where
-  string-read : string_at line i ≡ W.String s n k → (s ≡ i) × StringRead line s n k
+  string-read : string_at line i ≡ Ok (W.String s n k) → (s ≡ i) × StringRead line s n k
   unfolding string_at
   string-read e = by (scanned (drop (i + 1) line)) refl (inside (drop (i + 1) line)) e
     where
-      by : (w : Scanned) → scanned (drop (i + 1) line) ≡ w → Inside (length (drop (i + 1) line)) w → enclosed line i (closing 0 (i + 1) w) ≡ W.String s n k
+      by : (w : Scanned) → scanned (drop (i + 1) line) ≡ w → Inside (length (drop (i + 1) line)) w → enclosed line i (closing 0 (i + 1) w) ≡ Ok (W.String s n k)
           → (s ≡ i) × StringRead line s n k
       by unclosed q h e = let z : ◌≡◌ {A = ℕ} 0 1 = cc in absurd (omega arith)
       by (closed bs m) q h e =
@@ -99,15 +101,15 @@ module _ (line : List ℕ) (i s n k : ℕ) where
             },
           )
 
-  no_number : (x : Float) → string_at line i ≡ W.Number x k → ⊥
+  no_number : (x : Float) → string_at line i ≡ Ok (W.Number x k) → ⊥
   unfolding string_at
   no_number x e = by (scanned (drop (i + 1) line)) e
     where
-      of : (t : Bool) (a b : ℕ) → (if t then W.String i a b else W.Fault F.BadValue i) ≡ W.Number x k → ⊥
+      of : (t : Bool) (a b : ℕ) → (if t then Ok (W.String i a b) else Err (faulty F.BadValue i)) ≡ Ok (W.Number x k) → ⊥
       of true a b e = let z : ◌≡◌ {A = ℕ} 0 1 = cc in omega arith
       of false a b e = let z : ◌≡◌ {A = ℕ} 0 1 = cc in omega arith
 
-      by : (w : Scanned) → enclosed line i (closing 0 (i + 1) w) ≡ W.Number x k → ⊥
+      by : (w : Scanned) → enclosed line i (closing 0 (i + 1) w) ≡ Ok (W.Number x k) → ⊥
       by unclosed e = let z : ◌≡◌ {A = ℕ} 0 1 = cc in omega arith
       by (closed bs m) e = of (leb (0 + length bs) STRING && followed line (i + 1 + m)) (0 + length bs) (i + 1 + m) e
 
@@ -118,12 +120,12 @@ pub record NumberRead (line : List ℕ) (i : ℕ) (x : Float) (k : ℕ) : Type 0
   pub read : reading (run value_byte (drop i line)) ≡ D.Number x
   pub ends : past value_byte line i ≡ k
 
-from_told : (v : Reading) (i e k : ℕ) (x : Float) → told v i e ≡ W.Number x k → (v ≡ D.Number x) × (e ≡ k)
+from_told : (v : Reading) (i e k : ℕ) (x : Float) → told v i e ≡ Ok (W.Number x k) → (v ≡ D.Number x) × (e ≡ k)
 from_told (D.Number y) i e k x q = (cc, cc)
 from_told (D.BadForm r) i e k x q = let z : ◌≡◌ {A = ℕ} 0 1 = cc in absurd (omega arith)
 from_told (D.OutsideClass r) i e k x q = let z : ◌≡◌ {A = ℕ} 0 1 = cc in absurd (omega arith)
 
-number_read : (line : List ℕ) (i k : ℕ) (x : Float) → number_at line i ≡ W.Number x k → NumberRead line i x k
+number_read : (line : List ℕ) (i k : ℕ) (x : Float) → number_at line i ≡ Ok (W.Number x k) → NumberRead line i x k
 unfolding number_at
 number_read line i k x q =
     let f = from_told (reading (run value_byte (drop i line))) i (past value_byte line i) k x q in
@@ -138,11 +140,11 @@ pub number-takes : (line : List ℕ) (i : ℕ) (x : Float) (k : ℕ) → NumberR
 unfolding past
 number-takes line i x k r = omega (arith, some_bytes (run value_byte (drop i line)) x r.read, r.ends)
 
-no-string : (line : List ℕ) (i s n k : ℕ) → number_at line i ≡ W.String s n k → ⊥
+no-string : (line : List ℕ) (i s n k : ℕ) → number_at line i ≡ Ok (W.String s n k) → ⊥
 unfolding number_at
 no-string line i s n k e = by (reading (run value_byte (drop i line))) e
   where
-    by : (v : Reading) → told v i (past value_byte line i) ≡ W.String s n k → ⊥
+    by : (v : Reading) → told v i (past value_byte line i) ≡ Ok (W.String s n k) → ⊥
     by (D.Number y) e = let z : ◌≡◌ {A = ℕ} 0 1 = cc in omega arith
     by (D.BadForm r) e = let z : ◌≡◌ {A = ℕ} 0 1 = cc in omega arith
     by (D.OutsideClass r) e = let z : ◌≡◌ {A = ℕ} 0 1 = cc in omega arith
@@ -150,18 +152,23 @@ no-string line i s n k e = by (reading (run value_byte (drop i line))) e
 -- ---- a value
 
 module _ (line : List ℕ) (i : ℕ) where
-  pub value-number : (x : Float) (k : ℕ) → value_at line i ≡ W.Number x k → (stands QUOTE line i ≡ false) × NumberRead line i x k
+  pub value-number : (x : Float) (k : ℕ) → value_at line i ≡ Ok (W.Number x k) → (stands QUOTE line i ≡ false) × NumberRead line i x k
   unfolding value_at
   value-number x k e = by (stands QUOTE line i) e
     where
-      by : (t : Bool) → (if t then string_at line i else number_at line i) ≡ W.Number x k → (t ≡ false) × NumberRead line i x k
+      by : (t : Bool) → (if t then string_at line i else number_at line i) ≡ Ok (W.Number x k) → (t ≡ false) × NumberRead line i x k
       by true e = absurd (no_number line i 0 0 k x e)
       by false e = (refl, number_read line i k x e)
 
-  pub value-string : (s n k : ℕ) → value_at line i ≡ W.String s n k → (stands QUOTE line i ≡ true) × (s ≡ i) × StringRead line s n k
+  pub value-string : (s n k : ℕ) → value_at line i ≡ Ok (W.String s n k) → (stands QUOTE line i ≡ true) × (s ≡ i) × StringRead line s n k
   unfolding value_at
   value-string s n k e = by (stands QUOTE line i) e
     where
-      by : (t : Bool) → (if t then string_at line i else number_at line i) ≡ W.String s n k → (t ≡ true) × (s ≡ i) × StringRead line s n k
+      by : (t : Bool) → (if t then string_at line i else number_at line i) ≡ Ok (W.String s n k) → (t ≡ true) × (s ≡ i) × StringRead line s n k
       by true e = let r = string-read line i s n k e in (refl, r.0, r.1)
       by false e = absurd (no-string line i s n k e)
+
+-- how many bytes a value has
+pub value-long : (line : List ℕ) (i : ℕ) (w : Word) → value_at line i ≡ Ok w → bytes_in (value_of line w) ≡ long_of w
+value-long line i (W.Number x k) e = refl
+value-long line i (W.String s n k) e = (value-string line i s n k e).2.bytes

@@ -9,11 +9,12 @@ use borrow.Author.Tests.{ne_eqb, eqb-true}
 use lib.Dec.{eqb}
 use lib.ListN.{length, drop, get_or, drop_of_length-le}
 use lib.Seq.{get_or-drop}
+use Rattle.std.specs.Prelude.{Option, Some, None}
 use Rattle.plain.specs.Bytes.{QUOTE}
 use Rattle.plain.proofs.Runs.{drop-byte}
 use Rattle.value.specs.Classes.{stands}
 use Rattle.value.specs.Strings.{Scanned, closed, unclosed, preceding, scanned, closing}
-use Rattle.value.specs.declared.strings.Closing.TheVariants as C
+use Rattle.value.specs.declared.strings.Closed.{Closed}
 use Rattle.value.proofs.Standing.{stands-within}
 
 -- ---- by the bytes
@@ -37,6 +38,9 @@ scan-close (c ∷ bs) e = rw e
 
 -- ---- by the place
 
+abbrev closed_at : (long end : ℕ) → Option Closed
+closed_at n k = Some (record { long = n; end = k })
+
 further : (n i b k : ℕ) (s : Scanned) → closing (n + 1) (i + k) s ≡ closing n i (preceding b k s)
 further n i b k unclosed = refl
 further n i b k (closed bs m) =
@@ -45,7 +49,7 @@ further n i b k (closed bs m) =
     rw (y, z)
 
 module _ (line : List ℕ) (n i : ℕ) where
-  pub at-line-end : length line ≤ i → C.Unclosed ≡ closing n i (scanned (drop i line))
+  pub at-line-end : length line ≤ i → None ≡ closing n i (scanned (drop i line))
   unfolding scanned
   at-line-end h = rw (drop_of_length-le line h)
 
@@ -65,9 +69,9 @@ module _ (line : List ℕ) (n i : ℕ) where
           further n i QUOTE 2 (scanned (drop (i + 2) line))
           ∙ ap (closing n i) (sym (scan-twice (drop (i + 2) line)) ∙ ap scanned (sym (drop-byte line i QUOTE h q ∙ ap (λ (l : List ℕ). QUOTE ∷ l) p)))
 
-      pub at-quote : t ≡ false → C.Closed n (i + 1) ≡ closing n i (scanned (drop i line))
+      pub at-quote : t ≡ false → closed_at n (i + 1) ≡ closing n i (scanned (drop i line))
       at-quote y =
           let o : stands QUOTE (drop (i + 1) line) 0 ≡ false =
           ap (λ (b : ℕ). eqb b QUOTE) (get_or-drop (i + 1) line 0 0 ∙ ap (λ (j : ℕ). get_or line j 0) (add-zero (i + 1))) ∙ sym e ∙ y in
-          ap (λ (m : ℕ). C.Closed m (i + 1)) (sym (add-zero n))
+          ap (λ (m : ℕ). closed_at m (i + 1)) (sym (add-zero n))
           ∙ ap (closing n i) (sym (scan-close (drop (i + 1) line) o) ∙ ap scanned (sym (drop-byte line i QUOTE h q)))

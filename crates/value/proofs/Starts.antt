@@ -7,12 +7,14 @@ use mathlib.Core.List.{List}
 use lib.Dec.{leb}
 use lib.ListN.{length, drop}
 use Rattle.plain.specs.Bytes.{QUOTE}
-use Rattle.std.specs.Prelude.{if◌then◌else◌}
+use Rattle.std.specs.Prelude.{Result, Ok, Err, if◌then◌else◌}
 use Rattle.plain.specs.Runs.{run, past}
 use Rattle.decimal.specs.Class.{reading}
 use Rattle.decimal.specs.declared.Reading.{Reading}
 use Rattle.decimal.specs.declared.Reading.TheVariants as D
 use Rattle.value.specs.Classes.{value_byte, stands}
+use Rattle.value.specs.Faults.{faulty}
+use Rattle.value.specs.declared.faults.LineFault.{LineFault}
 use Rattle.value.specs.Strings.{STRING, Scanned, closed, unclosed, scanned, followed, enclosed, closing, string_at}
 use Rattle.value.specs.Value.{told, number_at, value_at}
 use Rattle.value.specs.declared.faults.Fault.TheVariants as F
@@ -20,17 +22,16 @@ use Rattle.value.specs.declared.Word.{Word}
 use Rattle.value.specs.declared.Word.TheVariants as W
 
 -- no fault, or one at this place
-abbrev pub FaultAt : ℕ → Word → Type 0
-FaultAt i (W.Number x k) = Unit
-FaultAt i (W.String s n k) = Unit
-FaultAt i (W.Fault q k) = k ≡ i
+abbrev pub FaultAt : ℕ → Result Word LineFault → Type 0
+FaultAt i (Ok w) = Unit
+FaultAt i (Err f) = f.place ≡ i
 
 module _ (line : List ℕ) (i : ℕ) where
   string-starts : FaultAt i (string_at line i)
   unfolding string_at
   string-starts = by (scanned (drop (i + 1) line))
     where
-      of : (t : Bool) (n end : ℕ) → FaultAt i (if t then W.String i n end else W.Fault F.BadValue i)
+      of : (t : Bool) (n end : ℕ) → FaultAt i (if t then Ok (W.String i n end) else Err (faulty F.BadValue i))
       of true n end = tt
       of false n end = refl
 

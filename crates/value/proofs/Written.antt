@@ -12,6 +12,7 @@ use Rattle.plain.specs.Bytes.{QUOTE}
 use Rattle.value.specs.Classes.{value_byte, stands}
 use Rattle.value.specs.Strings.{STRING, doubled, quoted, followed, string_at}
 use Rattle.value.specs.Value.{value_at}
+use Rattle.std.specs.Prelude.{Ok}
 use Rattle.value.specs.declared.Word.TheVariants as W
 use Rattle.value.proofs.Quotes.{scan-doubled}
 
@@ -41,7 +42,7 @@ module _ (front s back : List ℕ) (short : length s ≤ STRING) (follows : foll
       let z : length front + 1 + (length (doubled s) + 1) ≡ length (front ++ quoted s) + 0 = omega (arith, length-append front (quoted s), length-append (doubled s) (QUOTE ∷ [])) in
       ap (followed (front ++ (quoted s ++ back))) z ∙ ap (λ (l : List ℕ). followed l (length (front ++ quoted s) + 0)) (sym (append_assoc front (quoted s) back)) ∙ followed-on (front ++ quoted s) back ∙ follows
 
-  pub string-written : string_at (front ++ (quoted s ++ back)) (length front) ≡ W.String (length front) (length s) (length front + length (quoted s))
+  pub string-written : string_at (front ++ (quoted s ++ back)) (length front) ≡ Ok (W.String (length front) (length s) (length front + length (quoted s)))
   unfolding string_at
   string-written =
       let y : 0 + length s ≡ length s = omega arith in
@@ -54,6 +55,6 @@ module _ (front s back : List ℕ) (short : length s ≤ STRING) (follows : foll
       let z : length front ≡ length front + 0 = omega arith in
       ap (λ (b : ℕ). eqb b QUOTE) (ap (λ (i : ℕ). get_or (front ++ (quoted s ++ back)) i 0) z ∙ get_or-append-add front (quoted s ++ back) 0 0)
 
-  pub value_written : value_at (front ++ (quoted s ++ back)) (length front) ≡ W.String (length front) (length s) (length front + length (quoted s))
+  pub value_written : value_at (front ++ (quoted s ++ back)) (length front) ≡ Ok (W.String (length front) (length s) (length front + length (quoted s)))
   unfolding value_at
   value_written = rw opens string-written

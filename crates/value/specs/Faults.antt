@@ -2,10 +2,16 @@
 -- becomes 17 BAD NAME, 18 NO OPERATOR, 19 BAD VALUE (K2's faults too, a second kind at its first value, and there before 6), 20 OPEN LIST
 -- (also an empty one), 21 REST OF LINE; all stand where 5 stood" (document 02, K3). Definitions only. A fault goes with its place in the
 -- line, counted in bytes from 0.
+use Rattle.std.specs.Prelude.{ℕ}
 use Rattle.refusal.specs.declared.Refusal.{Refusal}
 use Rattle.refusal.specs.declared.Refusal.TheVariants as R
 use Rattle.value.specs.declared.faults.Fault.{Fault}
 use Rattle.value.specs.declared.faults.Fault.TheVariants as F
+use Rattle.value.specs.declared.faults.LineFault.{LineFault}
+
+-- a fault at a place of its line
+abbrev pub faulty : Fault → (place : ℕ) → LineFault
+faulty q k = record { fault = q; place = k }
 
 abbrev pub refusal_of : Fault → Refusal
 refusal_of F.TooLong = R.LineTooLong

@@ -1,11 +1,12 @@
 -- "Admit strings in single quotes, a quote inside written twice, up to 60 bytes after undoubling, on one line .. A blank, comma, bracket
 -- or line end follows the closing quote." Definitions only.
-use Rattle.std.specs.Prelude.{ℕ, ◌+◌, Bool, true, ◌&&◌, not, List, [], ◌∷◌, ◌++◌, eqb, ltb, leb, length, drop, get_or, if◌then◌else◌}
+use Rattle.std.specs.Prelude.{ℕ, ◌+◌, Bool, true, ◌&&◌, not, List, [], ◌∷◌, ◌++◌, Option, Some, None, Result, Ok, Err, eqb, ltb, leb, length, drop, get_or, if◌then◌else◌}
 use Rattle.plain.specs.Bytes.{QUOTE}
 use Rattle.value.specs.Classes.{value_byte}
+use Rattle.value.specs.Faults.{faulty}
 use Rattle.value.specs.declared.faults.Fault.TheVariants as F
-use Rattle.value.specs.declared.strings.Closing.{Closing}
-use Rattle.value.specs.declared.strings.Closing.TheVariants as C
+use Rattle.value.specs.declared.faults.LineFault.{LineFault}
+use Rattle.value.specs.declared.strings.Closed.{Closed}
 use Rattle.value.specs.declared.Word.{Word}
 use Rattle.value.specs.declared.Word.TheVariants as W
 
@@ -57,19 +58,19 @@ abbrev pub followed : List ℕ → ℕ → Bool
 followed line i = if ltb i (length line) then not (value_byte (get_or line i 0)) else true
 
 -- a string from place i to `end`, of so many bytes
-abbrev pub fitting : List ℕ → (i long end : ℕ) → Word
-fitting line i n end = if leb n STRING && followed line end then W.String i n end else W.Fault F.BadValue i
+abbrev pub fitting : List ℕ → (i long end : ℕ) → Result Word LineFault
+fitting line i n end = if leb n STRING && followed line end then Ok (W.String i n end) else Err (faulty F.BadValue i)
 
 -- what was found past the opening quote at i
-abbrev pub enclosed : List ℕ → (i : ℕ) → Closing → Word
-enclosed line i (C.Closed n end) = fitting line i n end
-enclosed line i C.Unclosed = W.Fault F.BadValue i
+abbrev pub enclosed : List ℕ → (i : ℕ) → Option Closed → Result Word LineFault
+enclosed line i (Some c) = fitting line i c.long c.end
+enclosed line i None = Err (faulty F.BadValue i)
 
 -- the same as the code gives it: the length and the place after the closing quote, past so many bytes and up to place i
-abbrev pub closing : (long i : ℕ) → Scanned → Closing
-closing n i (closed bs k) = C.Closed (n + length bs) (i + k)
-closing n i unclosed = C.Unclosed
+abbrev pub closing : (long i : ℕ) → Scanned → Option Closed
+closing n i (closed bs k) = Some (record { long = n + length bs; end = i + k })
+closing n i unclosed = None
 
 -- the string whose opening quote stands at place i: unclosed, too long or wrongly followed it is a fault there
-unfoldable pub string_at : List ℕ → ℕ → Word
+unfoldable pub string_at : List ℕ → ℕ → Result Word LineFault
 string_at line i = enclosed line i (closing 0 (i + 1) (scanned (drop (i + 1) line)))

@@ -27,15 +27,12 @@ pub fn past(k: Class, line: &[u8], at: usize) -> usize
     ensures { result ≡ past (is k) line.now at }
 {
     let mask = mask_of(k);
-    let mut i = at;
-    while i < line.len() {
-        if holds(mask, line[i]) {
-            i += 1;
-        } else {
+    for i in at..line.len() {
+        if !holds(mask, line[i]) {
             return i;
         }
     }
-    i
+    at.max(line.len())
 }
 
 // The run of such bytes that starts at `at`.

@@ -3,33 +3,32 @@ ghost use Rattle.std.specs.Prelude.{◌≡◌, ◌<◌, length, drop};
 ghost use Rattle.value.specs.Strings.{scanned, closing, followed, fitting, string_at};
 
 use crate::classes::Class;
-use crate::faults::Fault;
+use crate::faults::{Fault, LineFault};
 use crate::{Word, classes};
 
 // The longest string.
 pub const STRING: usize = 60;
 
-// How long a string is, two quotes being one, and the place after its closing quote; or no quote closes it.
+// How long a string is, two quotes being one, and the place after its closing quote.
 #[derive(Clone, Copy)]
-pub enum Closing {
-    Closed(usize, usize),
-    Unclosed,
+pub struct Closed {
+    pub long: usize,
+    pub end: usize,
 }
 
 // The string whose opening quote is at `at`.
-pub fn read_string(line: &[u8], at: usize) -> Word
+pub fn read_string(line: &[u8], at: usize) -> Result<Word, LineFault>
     requires { at < length line.now }
     ensures { result ≡ string_at line.now at }
 {
-    let closing = find_closing(line, at + 1);
-    match closing {
-        Closing::Closed(long, end) => fitting(line, at, long, end),
-        Closing::Unclosed => Word::Fault(Fault::BadValue, at),
+    match find_closing(line, at + 1) {
+        Some(closed) => fitting(line, at, closed),
+        None => Err(Fault::BadValue.at(at)),
     }
 }
 
-// Where a string closes, whose bytes start at `at`.
-fn find_closing(line: &[u8], at: usize) -> Closing
+// Where a string closes, whose bytes start at `at`, if a quote closes it. A `while`, for a place goes on by one byte or by two.
+fn find_closing(line: &[u8], at: usize) -> Option<Closed>
     ensures { result ≡ closing 0 at (scanned (drop at line.now)) }
 {
     let mut i = at;
@@ -40,26 +39,26 @@ fn find_closing(line: &[u8], at: usize) -> Closing
                 i += 2;
                 long += 1;
             } else {
-                return Closing::Closed(long, i + 1);
+                return Some(Closed { long, end: i + 1 });
             }
         } else {
             i += 1;
             long += 1;
         }
     }
-    Closing::Unclosed
+    None
 }
 
 // A string that may be too long or wrongly followed.
-fn fitting(line: &[u8], at: usize, long: usize, end: usize) -> Word
-    ensures { result ≡ fitting line.now at long end }
+fn fitting(line: &[u8], at: usize, closed: Closed) -> Result<Word, LineFault>
+    ensures { result ≡ fitting line.now at closed.long closed.end }
 {
-    if long <= STRING {
-        if is_followed(line, end) {
-            return Word::String(at, long, end);
+    if closed.long <= STRING {
+        if is_followed(line, closed.end) {
+            return Ok(Word::String(at, closed.long, closed.end));
         }
     }
-    Word::Fault(Fault::BadValue, at)
+    Err(Fault::BadValue.at(at))
 }
 
 // A blank, a comma, a bracket or the line's end is at a place.

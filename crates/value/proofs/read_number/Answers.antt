@@ -3,6 +3,7 @@ use native.Mathlib.Omega.{arith}
 use Prim.Native.Nat.{◌-◌, ◌^◌}
 use mathlib.Core.Path.{◌≡◌, sym, ap}
 use lib.ListN.{length, drop}
+use Rattle.std.specs.Prelude.{Err}
 use Rattle.plain.specs.Runs.{run, past}
 use Rattle.plain.proofs.Places.{past-most}
 use Rattle.value.specs.Classes.{value_byte}
@@ -18,12 +19,12 @@ overflow_add-result c =
 
 pub returns-in-Number : goal.returns-in-Number
 unfolding number_at past
-returns-in-Number c = simp (sym c.run-bytes.ensures, sym c.read-reading.ensures, c.in-Number.is)
+returns-in-Number c = simp (sym c.run-bytes.ensures, sym c.read.ensures, c.in-Number.is)
 
 pub returns-in-BadForm : goal.returns-in-BadForm
 unfolding number_at past
-returns-in-BadForm c = simp (sym c.run-bytes.ensures, sym c.read-reading.ensures, c.in-BadForm.is)
+returns-in-BadForm c = simp (sym c.run-bytes.ensures, sym c.read.ensures, c.in-BadForm.is) (ap Err c.at.ensures)
 
 pub returns-in-OutsideClass : goal.returns-in-OutsideClass
 unfolding number_at past
-returns-in-OutsideClass c = simp (sym c.run-bytes.ensures, sym c.read-reading.ensures, c.in-OutsideClass.is)
+returns-in-OutsideClass c = simp (sym c.run-bytes.ensures, sym c.read.ensures, c.in-OutsideClass.is) (ap Err c.at-in-OutsideClass.ensures)

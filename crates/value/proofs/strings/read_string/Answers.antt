@@ -1,12 +1,13 @@
 -- `read_string` meets its contract: either way out is one case of `enclosed`. Assumes nothing.
-use mathlib.Core.Path.{sym}
+use mathlib.Core.Path.{sym, ap}
+use Rattle.std.specs.Prelude.{Err}
 use Rattle.value.specs.Strings.{string_at}
 use Rattle.value.proofs.strings.read_string.Goals as goal
 
-pub returns-in-Closed : goal.returns-in-Closed
+pub returns-in-Some : goal.returns-in-Some
 unfolding string_at
-returns-in-Closed c = simp (sym c.find_closing-closing.ensures, c.in-Closed.is) c.fitting.ensures
+returns-in-Some c = simp (sym c.find_closing.ensures, c.in-Some.is) c.fitting.ensures
 
-pub returns-in-Unclosed : goal.returns-in-Unclosed
+pub returns-in-None : goal.returns-in-None
 unfolding string_at
-returns-in-Unclosed c = simp (sym c.find_closing-closing.ensures, c.in-Unclosed.is)
+returns-in-None c = simp (sym c.find_closing.ensures, c.in-None.is) (ap Err c.at.ensures)
