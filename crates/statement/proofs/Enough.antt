@@ -7,8 +7,11 @@ use mathlib.Core.List.{List}
 use borrow.Author.Tests.{le-ltb}
 use lib.Ieee.{Float}
 use lib.ListN.{length}
+use Rattle.std.specs.Prelude.{Result, Ok, Err}
 use Rattle.plain.proofs.Places.{past_end}
 use Rattle.value.specs.Classes.{separator}
+use Rattle.value.specs.declared.Word.TheVariants as W
+use Rattle.value.specs.declared.faults.LineFault.{LineFault}
 use Rattle.statement.specs.Values.{item, Items, further, items_up_to, items}
 use Rattle.statement.specs.declared.values.Item.{Item}
 use Rattle.statement.specs.declared.values.Item.TheVariants as I
@@ -16,17 +19,17 @@ use Rattle.statement.specs.declared.values.Kind.{Kind}
 use Rattle.statement.specs.declared.values.Kind.TheVariants as K
 use Rattle.statement.proofs.Found.{number-on, string-on}
 
-pub beyond : (kind : Kind) (line : List ℕ) (i : ℕ) → length line ≤ i → item kind line i ≡ I.End
+pub beyond : (kind : Kind) (line : List ℕ) (i : ℕ) → length line ≤ i → item kind line i ≡ Ok I.End
 unfolding item
 beyond kind line i h = rw (past_end separator line i h, le-ltb i (length line) h)
 
-same-further : (kind : Kind) (line : List ℕ) (m : Item) (f g : Kind → ℕ → Items) → ((x : Float) (k : ℕ) → m ≡ I.Number x k → f K.Numbers k ≡ g K.Numbers k)
-    → ((s n k : ℕ) → m ≡ I.String s n k → f K.Strings k ≡ g K.Strings k) → further kind line m f ≡ further kind line m g
-same-further kind line I.End f g h e = refl
-same-further kind line (I.Close k) f g h e = refl
-same-further kind line (I.Number x k) f g h e = rw (h x k refl)
-same-further kind line (I.String s n k) f g h e = rw (e s n k refl)
-same-further kind line (I.Fault q k) f g h e = refl
+same-further : (kind : Kind) (line : List ℕ) (m : Result Item LineFault) (f g : Kind → ℕ → Items) → ((x : Float) (k : ℕ) → m ≡ Ok (I.Value (W.Number x k)) → f K.Numbers k ≡ g K.Numbers k)
+    → ((s n k : ℕ) → m ≡ Ok (I.Value (W.String s n k)) → f K.Strings k ≡ g K.Strings k) → further kind line m f ≡ further kind line m g
+same-further kind line (Ok I.End) f g h e = refl
+same-further kind line (Ok (I.Close k)) f g h e = refl
+same-further kind line (Ok (I.Value (W.Number x k))) f g h e = rw (h x k refl)
+same-further kind line (Ok (I.Value (W.String s n k))) f g h e = rw (e s n k refl)
+same-further kind line (Err q) f g h e = refl
 
 one_more : (n : ℕ) (line : List ℕ) (kind : Kind) (i : ℕ) → length line ≤ n + i → items_up_to n line kind i ≡ items_up_to (suc n) line kind i
 unfolding items_up_to

@@ -3,15 +3,15 @@ use Prim.Native.Nat.{ℕ, ◌+◌}
 use mathlib.Core.Path.{◌≡◌, sym, ap}
 use mathlib.Core.List.{List}
 use lib.ListN.{length}
-use Rattle.value.specs.declared.faults.Fault.{Fault}
+use Rattle.std.specs.Prelude.{Some, None, Ok, Err}
+use Rattle.value.specs.Faults.{faulty}
 use Rattle.value.specs.declared.faults.Fault.TheVariants as F
+use Rattle.value.specs.declared.faults.LineFault.{LineFault}
 use Rattle.statement.specs.Values.{bytes_in_all, items, tally, rest, listed, taken}
 use Rattle.statement.specs.declared.values.Reader.TheVariants as R
 use Rattle.statement.specs.declared.values.Counted.{Counted}
 use Rattle.statement.specs.declared.values.Kind.{Kind}
 use Rattle.statement.specs.declared.values.Kind.TheVariants as K
-use Rattle.statement.specs.declared.values.Stop.TheVariants as S
-use Rattle.statement.specs.declared.values.Taken.TheVariants as T
 
 module _ (kind : Kind) (line : List ℕ) (i : ℕ) (c : Counted) (e : c ≡ tally (items kind line i)) where
   pub as_many : length (items kind line i).values ≡ c.given
@@ -26,16 +26,16 @@ module _ (kind : Kind) (line : List ℕ) (i : ℕ) (c : Counted) (e : c ≡ tall
   pub same_stop : (items kind line i).stop ≡ c.stop
   same_stop = sym (ap (λ (x : Counted). x.stop) e)
 
-  pub list-faulty : (w : Fault) (k : ℕ) → c.stop ≡ S.Fault w k → T.Fault w k ≡ taken (listed kind line i)
+  pub list-faulty : (f : LineFault) → c.stop ≡ Err f → Err f ≡ taken (listed kind line i)
   unfolding listed
-  list-faulty w k s = rw (same_stop, s)
+  list-faulty f s = rw (same_stop, s)
 
-  pub list_on : c.stop ≡ S.End → T.Values (R.List c.kind) c.given c.bytes ≡ taken (listed kind line i)
+  pub list_on : c.stop ≡ Ok None → Ok (record { reader = R.List c.kind; given = c.given; bytes = c.bytes }) ≡ taken (listed kind line i)
   unfolding listed
   list_on s = rw (same_stop, s, same_kind, as_many, as_long)
 
-  module _ (k : ℕ) (s : c.stop ≡ S.Close k) where
-    pub list-empty : c.kind ≡ K.Empty → T.Fault F.OpenList k ≡ taken (listed kind line i)
+  module _ (k : ℕ) (s : c.stop ≡ Ok (Some k)) where
+    pub list-empty : c.kind ≡ K.Empty → Err (faulty F.OpenList k) ≡ taken (listed kind line i)
     unfolding listed
     list-empty y = rw (same_stop, s, same_kind, y)
 

@@ -8,7 +8,7 @@ use lib.Dec.{ltb}
 use lib.Ieee.{Float, binary64, to_bits}
 use lib.ListN.{length, drop}
 use Rattle.plain.specs.Bytes.{OPEN, fair}
-use Rattle.std.specs.Prelude.{if◌then◌else◌}
+use Rattle.std.specs.Prelude.{Option, Some, None, Result, Ok, Err, if◌then◌else◌}
 use Rattle.plain.specs.Runs.{run, past}
 use Rattle.plain.proofs.Each.{Each}
 use Rattle.decimal.specs.Class.{reading}
@@ -17,6 +17,7 @@ use Rattle.value.specs.Classes.{blank, separator, value_byte, stands}
 use Rattle.value.specs.Strings.{STRING, undoubled}
 use Rattle.value.specs.Value.{Value, number, string, value_at}
 use Rattle.value.specs.declared.faults.Fault.TheVariants as F
+use Rattle.value.specs.declared.faults.LineFault.{LineFault}
 use Rattle.value.specs.declared.Word.{Word}
 use Rattle.value.specs.declared.Word.TheVariants as W
 use Rattle.value.proofs.Found.{value-number, value-string, StringRead}
@@ -29,8 +30,6 @@ use Rattle.statement.specs.declared.values.Item.{Item}
 use Rattle.statement.specs.declared.values.Item.TheVariants as I
 use Rattle.statement.specs.declared.values.Kind.{Kind}
 use Rattle.statement.specs.declared.values.Kind.TheVariants as K
-use Rattle.statement.specs.declared.values.Stop.{Stop}
-use Rattle.statement.specs.declared.values.Stop.TheVariants as S
 use Rattle.statement.proofs.Found.{item-number, item-string}
 
 -- ---- what a list has, from before some values to after them
@@ -141,25 +140,25 @@ module _ (P : ℕ → Type 0) (read : (bs : List ℕ) (x : Float) → reading bs
   good-items zero j i = (tt, refl)
   good-items (suc n) j i = by (item j line i) refl (good-items n)
     where
-      by : (m : Item) → item j line i ≡ m
+      by : (m : Result Item LineFault) → item j line i ≡ m
           → ((d : Kind) (k : ℕ) → Each (LegalValue P) (items_up_to n line d k).values × Taking d (items_up_to n line d k).values (items_up_to n line d k).kind)
           → Each (LegalValue P) (further j line m (items_up_to n line)).values × Taking j (further j line m (items_up_to n line)).values (further j line m (items_up_to n line)).kind
-      by I.End e f = (tt, refl)
-      by (I.Close k) e f = (tt, refl)
-      by (I.Fault q k) e f = (tt, refl)
-      by (I.Number x k) e f =
+      by (Ok I.End) e f = (tt, refl)
+      by (Ok (I.Close k)) e f = (tt, refl)
+      by (Err f') e f = (tt, refl)
+      by (Ok (I.Value (W.Number x k))) e f =
           let w = item-number j line i x k e in
           ((read (run value_byte (drop (past separator line i) line)) x w.1.read, (f K.Numbers k).0), (w.0, (f K.Numbers k).1))
-      by (I.String s l k) e f =
+      by (Ok (I.Value (W.String s l k))) e f =
           let w = item-string j line i s l k e in
           ((legal-string line s l k all_fair w.2, (f K.Strings k).0), (w.0, (f K.Strings k).1))
 
-  good-end : (j k : Kind) (vs : List Value) (s : Stop) → Each (LegalValue P) vs → Taking j vs k → Good P j (list_end k vs line s)
-  good-end j k vs (S.Fault q p) h t = tt
-  good-end j k vs S.End h t = (h, record { to = k; taking = t; after = refl })
-  good-end j K.Empty vs (S.Close p) h t = tt
-  good-end j K.Numbers vs (S.Close p) h t = good-rest j vs (p + 1) (h, record { to = K.Numbers; taking = t; after = tt })
-  good-end j K.Strings vs (S.Close p) h t = good-rest j vs (p + 1) (h, record { to = K.Strings; taking = t; after = tt })
+  good-end : (j k : Kind) (vs : List Value) (s : Result (Option ℕ) LineFault) → Each (LegalValue P) vs → Taking j vs k → Good P j (list_end k vs line s)
+  good-end j k vs (Err f) h t = tt
+  good-end j k vs (Ok None) h t = (h, record { to = k; taking = t; after = refl })
+  good-end j K.Empty vs (Ok (Some p)) h t = tt
+  good-end j K.Numbers vs (Ok (Some p)) h t = good-rest j vs (p + 1) (h, record { to = K.Numbers; taking = t; after = tt })
+  good-end j K.Strings vs (Ok (Some p)) h t = good-rest j vs (p + 1) (h, record { to = K.Strings; taking = t; after = tt })
 
   pub good-listed : (j : Kind) (i : ℕ) → Good P j (listed j line i)
   unfolding listed
@@ -172,12 +171,12 @@ module _ (P : ℕ → Type 0) (read : (bs : List ℕ) (x : Float) → reading bs
   unfolding given_at
   good-given i = by (stands OPEN line i) (value_at line i) refl
     where
-      by : (t : Bool) (w : Word) → value_at line i ≡ w → Good P K.Empty (if t then listed K.Empty line (i + 1) else alone line w)
+      by : (t : Bool) (w : Result Word LineFault) → value_at line i ≡ w → Good P K.Empty (if t then listed K.Empty line (i + 1) else alone line w)
       by true w e = good-listed K.Empty (i + 1)
-      by false (W.Number x k) e =
+      by false (Ok (W.Number x k)) e =
           good-rest K.Empty (number x ∷ []) k
           ((read (run value_byte (drop i line)) x (value-number line i x k e).1.read, tt), record { to = K.Numbers; taking = (refl, refl); after = tt })
-      by false (W.String s n k) e =
+      by false (Ok (W.String s n k)) e =
           good-rest K.Empty (string (undoubled (drop s line)) ∷ []) k
           ((legal-string line s n k all_fair (value-string line i s n k e).2, tt), record { to = K.Strings; taking = (refl, refl); after = tt })
-      by false (W.Fault q k) e = tt
+      by false (Err f) e = tt

@@ -9,7 +9,7 @@ use borrow.Author.Tests.{ltb-true}
 use lib.Dec.{ltb, lit<}
 use lib.ListN.{length, drop}
 use Rattle.plain.specs.Bytes.{PLUS, EQUALS, QUOTE, OPEN, CLOSE, within}
-use Rattle.std.specs.Prelude.{if◌then◌else◌}
+use Rattle.std.specs.Prelude.{Option, Some, None, Result, Ok, Err, if◌then◌else◌}
 use Rattle.plain.specs.Runs.{past}
 use Rattle.plain.proofs.Places.{past-within}
 use Rattle.plain.proofs.Tests.{both}
@@ -19,51 +19,50 @@ use Rattle.value.specs.Value.{Value, number, string, value_at}
 use Rattle.value.specs.declared.Word.{Word}
 use Rattle.value.specs.declared.Word.TheVariants as W
 use Rattle.value.specs.declared.faults.Fault.TheVariants as F
+use Rattle.value.specs.declared.faults.LineFault.{LineFault}
 use Rattle.value.proofs.Standing.{stands-within}
 use Rattle.value.proofs.Starts.{FaultAt, value-starts}
-use Rattle.statement.specs.Head.{NAME, head_operated, head_named, head}
+use Rattle.value.specs.Faults.{faulty}
+use Rattle.statement.specs.Head.{NAME, named, head_operated, head_named, opening, head}
 use Rattle.statement.specs.Values.{admits, list_value, as_item, item, further, items_up_to, items, Given, given, wrong, rest, list_end, listed, alone, given_at}
-use Rattle.statement.specs.declared.head.Head.{Head}
-use Rattle.statement.specs.declared.head.Head.TheVariants as H
+use Rattle.statement.specs.declared.head.Named.{Named}
 use Rattle.statement.specs.declared.head.Operator.TheVariants as O
 use Rattle.statement.specs.declared.values.Item.{Item}
 use Rattle.statement.specs.declared.values.Item.TheVariants as I
 use Rattle.statement.specs.declared.values.Kind.{Kind}
 use Rattle.statement.specs.declared.values.Kind.TheVariants as K
 use Rattle.statement.specs.declared.values.Reader.TheVariants as R
-use Rattle.statement.specs.declared.values.Stop.{Stop}
-use Rattle.statement.specs.declared.values.Stop.TheVariants as S
 
 -- ---- the head
 
 -- the place where a head's values start, or that of its fault, is n at most
-abbrev pub HeadUpTo : ℕ → Head → Type 0
-HeadUpTo n H.Blank = Unit
-HeadUpTo n (H.Named a e o i) = i ≤ n
-HeadUpTo n (H.Fault q k) = k ≤ n
+abbrev pub HeadUpTo : ℕ → Result (Option Named) LineFault → Type 0
+HeadUpTo n (Ok None) = Unit
+HeadUpTo n (Ok (Some h)) = h.at ≤ n
+HeadUpTo n (Err f) = f.place ≤ n
 
 module _ (line : List ℕ) where
-  operated-within : (n e i : ℕ) → i ≤ length line → HeadUpTo (length line) (head_operated line n e i)
+  operated-within : (n e i : ℕ) → i ≤ length line → HeadUpTo (length line) (opening (head_operated line n e i))
   operated-within n e i h = by (stands EQUALS line i) (stands PLUS line i && stands EQUALS line (i + 1)) refl refl
     where
       after : (j : ℕ) → stands EQUALS line j ≡ true → past blank line (j + 1) ≤ length line
       after j s = past-within blank line (j + 1) (omega (arith, stands-within EQUALS line j true (lit< tt) (sym s) refl))
 
       by : (t u : Bool) → stands EQUALS line i ≡ t → stands PLUS line i && stands EQUALS line (i + 1) ≡ u
-          → HeadUpTo (length line) (if t then H.Named n e O.Direct (past blank line (i + 1)) else (if u then H.Named n e O.Append (past blank line (i + 2)) else H.Fault F.NoOperator i))
+          → HeadUpTo (length line) (opening (if t then Ok (named n e O.Direct (past blank line (i + 1))) else (if u then Ok (named n e O.Append (past blank line (i + 2))) else Err (faulty F.NoOperator i))))
       by true u s p = after i s
       by false true s p =
           let z : i + 1 + 1 ≡ i + 2 = omega arith in
           rw z at (after (i + 1) (both (stands PLUS line i) (stands EQUALS line (i + 1)) p).1)
       by false false s p = h
 
-  named-within : (n : ℕ) → n < length line → HeadUpTo (length line) (head_named line n (past name_byte line n))
+  named-within : (n : ℕ) → n < length line → HeadUpTo (length line) (opening (head_named line n (past name_byte line n)))
   named-within n h = by (within 1 NAME (e - n))
     where
       e : ℕ
       e = past name_byte line n
 
-      by : (t : Bool) → HeadUpTo (length line) (if t then head_operated line n e (past blank line e) else H.Fault F.BadName n)
+      by : (t : Bool) → HeadUpTo (length line) (opening (if t then head_operated line n e (past blank line e) else Err (faulty F.BadName n)))
       by true = operated-within n e (past blank line e) (past-within blank line e (past-within name_byte line n (omega arith)))
       by false = omega arith
 
@@ -74,24 +73,23 @@ module _ (line : List ℕ) where
       n : ℕ
       n = past blank line 0
 
-      by : (t : Bool) → ltb n (length line) ≡ t → HeadUpTo (length line) (if t then head_named line n (past name_byte line n) else H.Blank)
+      by : (t : Bool) → ltb n (length line) ≡ t → HeadUpTo (length line) (if t then opening (head_named line n (past name_byte line n)) else Ok None)
       by true e = named-within n (ltb-true n (length line) e)
       by false e = tt
 
 -- ---- a list's values
 
 -- a list's `)`, or its fault, stands at a place below n
-abbrev ItemIn : ℕ → Item → Type 0
-ItemIn n I.End = Unit
-ItemIn n (I.Close k) = k < n
-ItemIn n (I.Number x k) = Unit
-ItemIn n (I.String s l k) = Unit
-ItemIn n (I.Fault q k) = k < n
+abbrev ItemIn : ℕ → Result Item LineFault → Type 0
+ItemIn n (Ok I.End) = Unit
+ItemIn n (Ok (I.Close k)) = k < n
+ItemIn n (Ok (I.Value w)) = Unit
+ItemIn n (Err f) = f.place < n
 
-abbrev StopIn : ℕ → Stop → Type 0
-StopIn n S.End = Unit
-StopIn n (S.Close k) = k < n
-StopIn n (S.Fault q k) = k < n
+abbrev StopIn : ℕ → Result (Option ℕ) LineFault → Type 0
+StopIn n (Ok None) = Unit
+StopIn n (Ok (Some k)) = k < n
+StopIn n (Err f) = f.place < n
 
 -- a fault's place is n at most
 abbrev pub GivenUpTo : ℕ → Given → Type 0
@@ -103,14 +101,13 @@ module _ (line : List ℕ) where
   unfolding list_value
   listed-starts kind i = by (admits kind (stands QUOTE line i))
     where
-      by : (t : Bool) → FaultAt i (if t then value_at line i else W.Fault F.BadValue i)
+      by : (t : Bool) → FaultAt i (if t then value_at line i else Err (faulty F.BadValue i))
       by true = value-starts line i
       by false = refl
 
-  as-item-within : (w : Word) (i : ℕ) → i < length line → FaultAt i w → ItemIn (length line) (as_item w)
-  as-item-within (W.Number x k) i h f = tt
-  as-item-within (W.String s n k) i h f = tt
-  as-item-within (W.Fault q k) i h f = omega (arith, f)
+  as-item-within : (r : Result Word LineFault) (i : ℕ) → i < length line → FaultAt i r → ItemIn (length line) (as_item r)
+  as-item-within (Ok w) i h f = tt
+  as-item-within (Err q) i h f = omega (arith, f)
 
   item-within : (kind : Kind) (i : ℕ) → ItemIn (length line) (item kind line i)
   unfolding item
@@ -119,7 +116,7 @@ module _ (line : List ℕ) where
       p : ℕ
       p = past separator line i
 
-      by : (t u : Bool) → ltb p (length line) ≡ t → ItemIn (length line) (if t then (if u then I.Close p else as_item (list_value kind line p)) else I.End)
+      by : (t u : Bool) → ltb p (length line) ≡ t → ItemIn (length line) (if t then (if u then Ok (I.Close p) else as_item (list_value kind line p)) else Ok I.End)
       by true true e = ltb-true p (length line) e
       by true false e = as-item-within (list_value kind line p) p (ltb-true p (length line) e) (listed-starts kind p)
       by false u e = tt
@@ -129,16 +126,16 @@ module _ (line : List ℕ) where
   stop-within zero kind i = tt
   stop-within (suc n) kind i = by (item kind line i) (item-within kind i) (stop-within n)
     where
-      by : (m : Item) → ItemIn (length line) m → ((d : Kind) (j : ℕ) → StopIn (length line) (items_up_to n line d j).stop)
+      by : (m : Result Item LineFault) → ItemIn (length line) m → ((d : Kind) (j : ℕ) → StopIn (length line) (items_up_to n line d j).stop)
           → StopIn (length line) (further kind line m (items_up_to n line)).stop
-      by I.End h f = tt
-      by (I.Close k) h f = h
-      by (I.Number x k) h f = f K.Numbers k
-      by (I.String s l k) h f = f K.Strings k
-      by (I.Fault q k) h f = h
+      by (Ok I.End) h f = tt
+      by (Ok (I.Close k)) h f = h
+      by (Ok (I.Value (W.Number x k))) h f = f K.Numbers k
+      by (Ok (I.Value (W.String s l k))) h f = f K.Strings k
+      by (Err f') h f = h
 
   -- the `)` that ends a list's values stands in the line
-  pub closes-within : (n : ℕ) (kind : Kind) (i k : ℕ) → (items_up_to n line kind i).stop ≡ S.Close k → k < length line
+  pub closes-within : (n : ℕ) (kind : Kind) (i k : ℕ) → (items_up_to n line kind i).stop ≡ Ok (Some k) → k < length line
   closes-within n kind i k e = rw e at (stop-within n kind i)
 
   -- ---- what a statement is given
@@ -151,21 +148,21 @@ module _ (line : List ℕ) where
       by true e = omega (arith, ltb-true (past blank line i) (length line) e)
       by false e = tt
 
-  end-within : (kind : Kind) (vs : List Value) (s : Stop) → StopIn (length line) s → GivenUpTo (length line) (list_end kind vs line s)
-  end-within kind vs S.End h = tt
-  end-within kind vs (S.Fault q k) h = omega arith
-  end-within K.Empty vs (S.Close k) h = omega arith
-  end-within K.Numbers vs (S.Close k) h = rest-within vs (k + 1)
-  end-within K.Strings vs (S.Close k) h = rest-within vs (k + 1)
+  end-within : (kind : Kind) (vs : List Value) (s : Result (Option ℕ) LineFault) → StopIn (length line) s → GivenUpTo (length line) (list_end kind vs line s)
+  end-within kind vs (Ok None) h = tt
+  end-within kind vs (Err f) h = omega arith
+  end-within K.Empty vs (Ok (Some k)) h = omega arith
+  end-within K.Numbers vs (Ok (Some k)) h = rest-within vs (k + 1)
+  end-within K.Strings vs (Ok (Some k)) h = rest-within vs (k + 1)
 
   pub listed-within : (kind : Kind) (i : ℕ) → GivenUpTo (length line) (listed kind line i)
   unfolding listed
   listed-within kind i = let is = items kind line i in end-within is.kind is.values is.stop (stop-within (length line) kind i)
 
-  alone-within : (w : Word) (i : ℕ) → i ≤ length line → FaultAt i w → GivenUpTo (length line) (alone line w)
-  alone-within (W.Number x k) i h f = rest-within (number x ∷ []) k
-  alone-within (W.String s n k) i h f = rest-within (string (undoubled (drop s line)) ∷ []) k
-  alone-within (W.Fault q k) i h f = omega (arith, f)
+  alone-within : (r : Result Word LineFault) (i : ℕ) → i ≤ length line → FaultAt i r → GivenUpTo (length line) (alone line r)
+  alone-within (Ok (W.Number x k)) i h f = rest-within (number x ∷ []) k
+  alone-within (Ok (W.String s n k)) i h f = rest-within (string (undoubled (drop s line)) ∷ []) k
+  alone-within (Err q) i h f = omega (arith, f)
 
   pub given-within : (i : ℕ) → i ≤ length line → GivenUpTo (length line) (given_at line i)
   unfolding given_at

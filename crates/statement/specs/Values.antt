@@ -1,13 +1,14 @@
 -- "Then a number, or `(` with at least one number and `)`.", and "A list is all numbers or all strings.": a line's values from a place on.
 -- Definitions only.
-use Rattle.std.specs.Prelude.{ℕ, zero, suc, ◌+◌, Bool, true, not, List, [], ◌∷◌, ltb, length, drop, if◌then◌else◌}
+use Rattle.std.specs.Prelude.{ℕ, zero, suc, ◌+◌, Bool, true, not, List, [], ◌∷◌, Option, Some, None, Result, Ok, Err, ltb, length, if◌then◌else◌}
 use Rattle.plain.specs.Bytes.{QUOTE, OPEN, CLOSE}
 use Rattle.plain.specs.Runs.{past}
 use Rattle.value.specs.Classes.{blank, separator, stands}
-use Rattle.value.specs.Strings.{undoubled}
-use Rattle.value.specs.Value.{Value, number, string, bytes_in, value_at}
+use Rattle.value.specs.Faults.{faulty}
+use Rattle.value.specs.Value.{Value, bytes_in, value_of, end_of, value_at}
 use Rattle.value.specs.declared.faults.Fault.{Fault}
 use Rattle.value.specs.declared.faults.Fault.TheVariants as F
+use Rattle.value.specs.declared.faults.LineFault.{LineFault}
 use Rattle.value.specs.declared.Word.{Word}
 use Rattle.value.specs.declared.Word.TheVariants as W
 use Rattle.statement.specs.declared.values.Counted.{Counted}
@@ -15,12 +16,9 @@ use Rattle.statement.specs.declared.values.Item.{Item}
 use Rattle.statement.specs.declared.values.Item.TheVariants as I
 use Rattle.statement.specs.declared.values.Kind.{Kind}
 use Rattle.statement.specs.declared.values.Kind.TheVariants as K
-use Rattle.statement.specs.declared.values.Stop.{Stop}
-use Rattle.statement.specs.declared.values.Stop.TheVariants as S
-use Rattle.statement.specs.declared.values.Taken.{Taken}
-use Rattle.statement.specs.declared.values.Taken.TheVariants as T
 use Rattle.statement.specs.declared.values.Reader.{Reader}
 use Rattle.statement.specs.declared.values.Reader.TheVariants as R
+use Rattle.statement.specs.declared.values.Values.{Values}
 
 -- ---- the values of a list
 
@@ -35,45 +33,48 @@ admits K.Empty quote = true
 admits K.Numbers quote = not quote
 admits K.Strings quote = quote
 
--- "19 BAD VALUE (.. a second kind at its first value, and there before 6)"
-unfoldable pub list_value : Kind → List ℕ → ℕ → Word
-list_value kind line i = if admits kind (stands QUOTE line i) then value_at line i else W.Fault F.BadValue i
+-- the kind of a list that has such a value
+abbrev pub kind_of : Word → Kind
+kind_of (W.Number x k) = K.Numbers
+kind_of (W.String i n k) = K.Strings
 
-abbrev pub as_item : Word → Item
-as_item (W.Number x end) = I.Number x end
-as_item (W.String i n end) = I.String i n end
-as_item (W.Fault q k) = I.Fault q k
+-- "19 BAD VALUE (.. a second kind at its first value, and there before 6)"
+unfoldable pub list_value : Kind → List ℕ → ℕ → Result Word LineFault
+list_value kind line i = if admits kind (stands QUOTE line i) then value_at line i else Err (faulty F.BadValue i)
+
+abbrev pub as_item : Result Word LineFault → Result Item LineFault
+as_item (Ok w) = Ok (I.Value w)
+as_item (Err f) = Err f
 
 -- what a list has at place i: the line's end, its `)`, or a value. A second `(` is no value, and so 19 where it stands
-abbrev pub item_at : Kind → List ℕ → ℕ → Item
-item_at kind line i = if ltb i (length line) then (if stands CLOSE line i then I.Close i else as_item (list_value kind line i)) else I.End
+abbrev pub item_at : Kind → List ℕ → ℕ → Result Item LineFault
+item_at kind line i = if ltb i (length line) then (if stands CLOSE line i then Ok (I.Close i) else as_item (list_value kind line i)) else Ok I.End
 
 -- what a list has next, after separators
-unfoldable pub item : Kind → List ℕ → ℕ → Item
+unfoldable pub item : Kind → List ℕ → ℕ → Result Item LineFault
 item kind line i = item_at kind line (past separator line i)
 
 -- a list's values in a line, what the list has after them, and what ended them: the line's end, the `)`, or a fault
 pub record Items : Type 0 where
   pub kind : Kind
   pub values : List Value
-  pub stop : Stop
+  pub stop : Result (Option ℕ) LineFault
 
-abbrev pub ended : Kind → Stop → Items
+abbrev pub ended : Kind → Result (Option ℕ) LineFault → Items
 ended k s = record { kind = k; values = []; stop = s }
 
 abbrev pub with_value : Value → Items → Items
 with_value v is = record { kind = is.kind; values = v ∷ is.values; stop = is.stop }
 
-abbrev pub further : Kind → List ℕ → Item → (Kind → ℕ → Items) → Items
-further kind line I.End more = ended kind S.End
-further kind line (I.Close k) more = ended kind (S.Close k)
-further kind line (I.Fault q k) more = ended kind (S.Fault q k)
-further kind line (I.Number x k) more = with_value (number x) (more K.Numbers k)
-further kind line (I.String i n k) more = with_value (string (undoubled (drop i line))) (more K.Strings k)
+abbrev pub further : Kind → List ℕ → Result Item LineFault → (Kind → ℕ → Items) → Items
+further kind line (Err f) more = ended kind (Err f)
+further kind line (Ok I.End) more = ended kind (Ok None)
+further kind line (Ok (I.Close k)) more = ended kind (Ok (Some k))
+further kind line (Ok (I.Value w)) more = with_value (value_of line w) (more (kind_of w) (end_of w))
 
 -- the items from place i on, of which there are no more than the line has bytes
 unfoldable pub items_up_to : (most : ℕ) → List ℕ → Kind → ℕ → Items
-items_up_to zero line kind i = ended kind S.End
+items_up_to zero line kind i = ended kind (Ok None)
 items_up_to (suc n) line kind i = further kind line (item kind line i) (items_up_to n line)
 
 abbrev pub items : Kind → List ℕ → ℕ → Items
@@ -101,26 +102,25 @@ shut K.Numbers vs line k = rest vs line (k + 1)
 shut K.Strings vs line k = rest vs line (k + 1)
 
 -- by what ended a list's values in this line
-abbrev pub list_end : Kind → List Value → List ℕ → Stop → Given
-list_end kind vs line S.End = given (R.List kind) vs
-list_end kind vs line (S.Close k) = shut kind vs line k
-list_end kind vs line (S.Fault q k) = wrong q k
+abbrev pub list_end : Kind → List Value → List ℕ → Result (Option ℕ) LineFault → Given
+list_end kind vs line (Ok None) = given (R.List kind) vs
+list_end kind vs line (Ok (Some k)) = shut kind vs line k
+list_end kind vs line (Err f) = wrong f.fault f.place
 
 -- a list that is open at place i, `kind` telling what it has on earlier lines
 unfoldable pub listed : Kind → List ℕ → ℕ → Given
 listed kind line i = list_end (items kind line i).kind (items kind line i).values line (items kind line i).stop
 
 -- one value alone, and then the rest of the line
-abbrev pub alone : List ℕ → Word → Given
-alone line (W.Number x k) = rest (number x ∷ []) line k
-alone line (W.String i n k) = rest (string (undoubled (drop i line)) ∷ []) line k
-alone line (W.Fault q k) = wrong q k
+abbrev pub alone : List ℕ → Result Word LineFault → Given
+alone line (Ok w) = rest (value_of line w ∷ []) line (end_of w)
+alone line (Err f) = wrong f.fault f.place
 
 -- after the operator: a list, or a value
 unfoldable pub given_at : List ℕ → ℕ → Given
 given_at line i = if stands OPEN line i then listed K.Empty line (i + 1) else alone line (value_at line i)
 
 -- the same as the code gives it: how many values, and how many bytes in strings
-abbrev pub taken : Given → Taken
-taken (given r vs) = T.Values r (length vs) (bytes_in_all vs)
-taken (wrong q k) = T.Fault q k
+abbrev pub taken : Given → Result Values LineFault
+taken (given r vs) = Ok (record { reader = r; given = length vs; bytes = bytes_in_all vs })
+taken (wrong q k) = Err (faulty q k)

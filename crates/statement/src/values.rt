@@ -2,10 +2,10 @@
 // numbers or all strings".
 ghost use Rattle.std.specs.Prelude.{◌≡◌, List, length};
 ghost use Rattle.value.specs.Value.{Value};
-ghost use Rattle.statement.specs.Values.{bytes_in_all, admits, list_value, item, items, tally, rest, listed, given_at, taken};
+ghost use Rattle.statement.specs.Values.{bytes_in_all, admits, kind_of, list_value, item, items, tally, rest, listed, given_at, taken};
 
 use value::classes::Class;
-use value::faults::Fault;
+use value::faults::{Fault, LineFault};
 use value::{Word, classes, read_value};
 
 // What a list has so far: no value, numbers, or strings.
@@ -24,38 +24,30 @@ pub enum Reader {
     List(Kind),
 }
 
-// What a list has next: the line's end, its `)`, a value as in a word; or a fault.
+// What a list has next: the line's end, its `)`, or a value.
 #[derive(Clone, Copy)]
 pub enum Item {
     End,
     Close(usize),
-    Number(f64, usize),
-    String(usize, usize, usize),
-    Fault(Fault, usize),
+    Value(Word),
 }
 
-// What ends a list's values in a line.
-#[derive(Clone, Copy)]
-pub enum Stop {
-    End,
-    Close(usize),
-    Fault(Fault, usize),
-}
-
-// What a list has after its values in a line, how many these are, how many bytes their strings have, and what ends them.
+// What a list has after its values in a line, how many these are, how many bytes their strings have, and what ends them: the line's end,
+// the `)` at a place, or a fault.
 #[derive(Clone, Copy)]
 pub struct Counted {
     pub kind: Kind,
     pub given: usize,
     pub bytes: usize,
-    pub stop: Stop,
+    pub stop: Result<Option<usize>, LineFault>,
 }
 
-// The reader after a statement's values, how many they are and how many bytes their strings have; or a fault.
+// The reader after a statement's values, how many they are and how many bytes their strings have.
 #[derive(Clone, Copy)]
-pub enum Taken {
-    Values(Reader, usize, usize),
-    Fault(Fault, usize),
+pub struct Values {
+    pub reader: Reader,
+    pub given: usize,
+    pub bytes: usize,
 }
 
 // A list takes a value, which a quote opens or not.
@@ -69,128 +61,121 @@ fn admits(kind: Kind, quote: bool) -> bool
     }
 }
 
+// The kind of a list that has such a value.
+pub fn kind_of(word: Word) -> Kind
+    ensures { result ≡ kind_of word }
+{
+    match word {
+        Word::Number(_, _) => Kind::Numbers,
+        Word::String(_, _, _) => Kind::Strings,
+    }
+}
+
 // The value at a place of a list.
-fn list_value(kind: Kind, line: &[u8], at: usize) -> Word
+fn list_value(kind: Kind, line: &[u8], at: usize) -> Result<Word, LineFault>
     ensures { result ≡ list_value kind line.now at }
 {
     if admits(kind, classes::stands(b'\'', line, at)) {
         return read_value(line, at);
     }
-    Word::Fault(Fault::BadValue, at)
+    Err(Fault::BadValue.at(at))
 }
 
 // What a list has next, after separators.
-pub fn next_item(kind: Kind, line: &[u8], at: usize) -> Item
+pub fn next_item(kind: Kind, line: &[u8], at: usize) -> Result<Item, LineFault>
     ensures { result ≡ item kind line.now at }
 {
     let k = classes::past(Class::Separator, line, at);
     if line.len() <= k {
-        return Item::End;
+        return Ok(Item::End);
     }
     if classes::stands(b')', line, k) {
-        return Item::Close(k);
+        return Ok(Item::Close(k));
     }
-    let word = list_value(kind, line, k);
-    match word {
-        Word::Number(x, end) => Item::Number(x, end),
-        Word::String(start, long, end) => Item::String(start, long, end),
-        Word::Fault(fault, place) => Item::Fault(fault, place),
-    }
+    Ok(Item::Value(list_value(kind, line, k)?))
 }
 
 // A list's values from a place on, counted: no more of them than the line has bytes.
 pub fn count_items(kind: Kind, line: &[u8], at: usize) -> Counted
     ensures { result ≡ tally (items kind line.now at) }
 {
-    let mut i = at;
     let mut kind = kind;
-    let mut given = 0;
+    let mut i = at;
     let mut bytes = 0;
-    let mut left = line.len();
-    while 0 < left {
-        let item = next_item(kind, line, i);
-        match item {
-            Item::End => {
-                return stopped(kind, given, bytes, Stop::End);
-            }
-            Item::Close(k) => {
-                return stopped(kind, given, bytes, Stop::Close(k));
-            }
-            Item::Fault(fault, place) => {
-                return stopped(kind, given, bytes, Stop::Fault(fault, place));
-            }
-            Item::Number(_, end) => {
-                i = end;
-                kind = Kind::Numbers;
-                given += 1;
-                left -= 1;
-            }
-            Item::String(_, long, end) => {
-                i = end;
-                kind = Kind::Strings;
-                given += 1;
-                bytes += long;
-                left -= 1;
-            }
-        }
+    for given in 0..line.len() {
+        let word = match next_item(kind, line, i) {
+            Ok(Item::Value(word)) => word,
+            Ok(Item::End) => return stopped(kind, given, bytes, Ok(None)),
+            Ok(Item::Close(k)) => return stopped(kind, given, bytes, Ok(Some(k))),
+            Err(fault) => return stopped(kind, given, bytes, Err(fault)),
+        };
+        kind = kind_of(word);
+        i = word.end();
+        bytes += word.long();
     }
-    stopped(kind, given, bytes, Stop::End)
+    stopped(kind, line.len(), bytes, Ok(None))
 }
 
 // The values so far, and what ends them.
-fn stopped(kind: Kind, given: usize, bytes: usize, stop: Stop) -> Counted
+fn stopped(
+    kind: Kind,
+    given: usize,
+    bytes: usize,
+    stop: Result<Option<usize>, LineFault>,
+) -> Counted
     ensures { result ≡ record { kind = kind; given = given; bytes = bytes; stop = stop } }
 {
     Counted {
-        kind: kind,
-        given: given,
-        bytes: bytes,
-        stop: stop,
+        kind,
+        given,
+        bytes,
+        stop,
     }
 }
 
 // The values of a list that is open at a place, `kind` telling what it has on earlier lines.
-pub fn list(kind: Kind, line: &[u8], at: usize) -> Taken
+pub fn list(kind: Kind, line: &[u8], at: usize) -> Result<Values, LineFault>
     ensures { result ≡ taken (listed kind line.now at) }
 {
     let counted = count_items(kind, line, at);
-    let kind = counted.kind;
     let given = counted.given;
     let bytes = counted.bytes;
-    let stop = counted.stop;
-    match stop {
-        Stop::End => Taken::Values(Reader::List(kind), given, bytes),
-        Stop::Close(k) => match kind {
-            Kind::Empty => Taken::Fault(Fault::OpenList, k),
-            Kind::Numbers => rest(given, bytes, line, k + 1),
-            Kind::Strings => rest(given, bytes, line, k + 1),
-        },
-        Stop::Fault(fault, place) => Taken::Fault(fault, place),
+    let Some(k) = counted.stop? else {
+        return Ok(Values {
+            reader: Reader::List(counted.kind),
+            given,
+            bytes,
+        });
+    };
+    match counted.kind {
+        Kind::Empty => Err(Fault::OpenList.at(k)),
+        Kind::Numbers => rest(given, bytes, line, k + 1),
+        Kind::Strings => rest(given, bytes, line, k + 1),
     }
 }
 
 // The values that start at a place, after the operator.
-pub fn value(line: &[u8], at: usize) -> Taken
+pub fn value(line: &[u8], at: usize) -> Result<Values, LineFault>
     ensures { result ≡ taken (given_at line.now at) }
 {
     if classes::stands(b'(', line, at) {
         return list(Kind::Empty, line, at + 1);
     }
-    let word = read_value(line, at);
-    match word {
-        Word::Number(_, end) => rest(1, 0, line, end),
-        Word::String(_, long, end) => rest(1, long, line, end),
-        Word::Fault(fault, place) => Taken::Fault(fault, place),
-    }
+    let word = read_value(line, at)?;
+    rest(1, word.long(), line, word.end())
 }
 
 // So many values with so many bytes, if only blanks follow them.
-pub fn rest(given: usize, bytes: usize, line: &[u8], at: usize) -> Taken
+pub fn rest(given: usize, bytes: usize, line: &[u8], at: usize) -> Result<Values, LineFault>
     ensures { (vs : List Value) → length vs ≡ given → bytes_in_all vs ≡ bytes → result ≡ taken (rest vs line.now at) }
 {
     let k = classes::past(Class::Blank, line, at);
     if k < line.len() {
-        return Taken::Fault(Fault::RestOfLine, k);
+        return Err(Fault::RestOfLine.at(k));
     }
-    Taken::Values(Reader::Data, given, bytes)
+    Ok(Values {
+        reader: Reader::Data,
+        given,
+        bytes,
+    })
 }

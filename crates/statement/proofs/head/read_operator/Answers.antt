@@ -1,10 +1,12 @@
 -- `read_operator` meets its contract: each way out is one case of `head_operated`. Assumes nothing.
 use Prim.Native.Nat.{◌+◌}
 use native.Mathlib.Omega.{arith}
-use mathlib.Core.Path.{sym}
+use mathlib.Core.Path.{sym, ap}
+use Rattle.std.specs.Prelude.{Err}
 use Rattle.plain.specs.Bytes.{PLUS, EQUALS}
 use Rattle.value.proofs.Standing.{stands-within}
 use Rattle.statement.proofs.head.read_operator.Goals as goal
+use Rattle.statement.proofs.head.read_operator.Goals.{then-stands-2+else-stands-3, else-stands-2}
 
 pub overflow_add-at : goal.overflow_add-at
 overflow_add-at c =
@@ -28,9 +30,11 @@ pub returns-then-stands-3 : goal.returns-then-stands-3
 returns-then-stands-3 c =
     simp (sym c.stands.ensures, c.if-stands.false, sym c.stands-2.ensures, c.if-stands-2.true, sym c.stands-then-stands-2.ensures, c.if-stands-3.true, c.past-then-stands-3.ensures)
 
-pub returns-else-stands-3 : goal.returns-else-stands-3
-returns-else-stands-3 c =
-    simp (sym c.stands.ensures, c.if-stands.false, sym c.stands-2.ensures, c.if-stands-2.true, sym c.stands-then-stands-2.ensures, c.if-stands-3.false)
-
-pub returns-else-stands-2 : goal.returns-else-stands-2
-returns-else-stands-2 c = simp (sym c.stands.ensures, c.if-stands.false, sym c.stands-2.ensures, c.if-stands-2.false)
+pub returns : goal.returns
+returns c =
+    let e = c.at.ensures in
+    simp (sym c.stands.ensures, c.if-stands.false)
+    (elim c.if-stands-2.branch [
+      | then-stands-2+else-stands-3 w ↦ simp (sym c.stands-2.ensures, w.if-stands-2.true, sym w.stands-then-stands-2.ensures, w.if-stands-3.false) (ap Err e)
+      | else-stands-2 w ↦ simp (sym c.stands-2.ensures, w.if-stands-2.false) (ap Err e)
+    ])

@@ -1,7 +1,8 @@
 -- `next_item` meets its contract: each way out is one case of `item`. Assumes nothing.
-use mathlib.Core.Path.{sym}
+use mathlib.Core.Path.{sym, ap, ◌∙◌}
 use borrow.Author.Tests.{lt-ltb, le-ltb}
-use Rattle.statement.specs.Values.{item}
+use Rattle.std.proofs.lemmas.Result.{err_from_is_err_and}
+use Rattle.statement.specs.Values.{as_item, item}
 use Rattle.statement.proofs.values.next_item.Goals as goal
 
 pub returns-then-line-k : goal.returns-then-line-k
@@ -12,17 +13,14 @@ pub returns-then-stands : goal.returns-then-stands
 unfolding item
 returns-then-stands c = simp (sym c.past-k.ensures, lt-ltb _ _ c.if-line-k.false, sym c.stands.ensures, c.if-stands.true)
 
-pub returns-in-Number : goal.returns-in-Number
+pub returns-in_err-list_value : goal.returns-in_err-list_value
 unfolding item
-returns-in-Number c =
-    simp (sym c.past-k.ensures, lt-ltb _ _ c.if-line-k.false, sym c.stands.ensures, c.if-stands.false, sym c.list_value-word.ensures, c.in-Number.is)
+returns-in_err-list_value c =
+    let p = err_from_is_err_and c.from_residual.result c.from_residual.ensures.1 in
+    rw (p.1, p.2)
+    (simp (sym c.past-k.ensures, lt-ltb _ _ c.if-line-k.false, sym c.stands.ensures, c.if-stands.false) (ap as_item (sym c.in_err-list_value.was ∙ c.list_value.ensures)))
 
-pub returns-in-String : goal.returns-in-String
+pub returns : goal.returns
 unfolding item
-returns-in-String c =
-    simp (sym c.past-k.ensures, lt-ltb _ _ c.if-line-k.false, sym c.stands.ensures, c.if-stands.false, sym c.list_value-word.ensures, c.in-String.is)
-
-pub returns-in-Fault : goal.returns-in-Fault
-unfolding item
-returns-in-Fault c =
-    simp (sym c.past-k.ensures, lt-ltb _ _ c.if-line-k.false, sym c.stands.ensures, c.if-stands.false, sym c.list_value-word.ensures, c.in-Fault.is)
+returns c =
+    simp (sym c.past-k.ensures, lt-ltb _ _ c.if-line-k.false, sym c.stands.ensures, c.if-stands.false) (ap as_item (sym c.in_ok-list_value.was ∙ c.list_value.ensures))

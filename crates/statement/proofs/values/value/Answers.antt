@@ -1,15 +1,18 @@
 -- `value` meets its contract: each way out is one case of `given_at`. Assumes nothing.
+use Prim.Native.Nat.{ℕ}
 use native.Mathlib.Omega.{arith}
 use native.Mathlib.Nat.{add-zero}
-use mathlib.Core.Path.{refl, sym, ◌∙◌}
+use mathlib.Core.Path.{refl, sym, ap, ◌∙◌}
 use mathlib.Core.List.{[], ◌∷◌}
-use lib.ListN.{length, drop}
+use Rattle.std.specs.Prelude.{Result}
+use Rattle.value.specs.declared.Word.{Word}
+use Rattle.value.specs.declared.faults.LineFault.{LineFault}
+use Rattle.std.proofs.lemmas.Result.{err_from_is_err_and}
 use Rattle.plain.specs.Bytes.{OPEN}
-use Rattle.value.specs.Strings.{undoubled}
-use Rattle.value.specs.Value.{number, string}
-use Rattle.value.proofs.Found.{value-string}
+use Rattle.value.specs.Value.{bytes_in, value_of}
+use Rattle.value.proofs.Found.{value-long}
 use Rattle.value.proofs.Standing.{stands-within}
-use Rattle.statement.specs.Values.{given_at}
+use Rattle.statement.specs.Values.{rest, alone, taken, given_at}
 use Rattle.statement.proofs.values.value.Goals as goal
 
 pub overflow_add-at : goal.overflow_add-at
@@ -21,22 +24,21 @@ pub returns-then-stands : goal.returns-then-stands
 unfolding given_at
 returns-then-stands c = simp (sym c.stands.ensures, c.if-stands.true) c.list.ensures
 
-pub returns-in-Number : goal.returns-in-Number
+pub returns-in_err-word : goal.returns-in_err-word
 unfolding given_at
-returns-in-Number c =
-    simp (sym c.stands.ensures, c.if-stands.false, sym c.read_value-word.ensures, c.in-Number.is)
-    (c.rest.ensures (number c.in-Number.field-0 ∷ []) refl refl)
+returns-in_err-word c =
+    let p = err_from_is_err_and c.from_residual.result c.from_residual.ensures.1 in
+    rw (p.1, p.2)
+    (simp (sym c.stands.ensures, c.if-stands.false)
+    (ap (λ (r : Result Word LineFault). taken (alone c.args.line.now r)) (sym c.in_err-word.was ∙ c.read_value.ensures)))
 
-pub returns-in-String : goal.returns-in-String
+pub returns : goal.returns
 unfolding given_at
-returns-in-String c =
-    let b = c.args in
-    let v = value-string b.line.now b.at _ _ _ (sym c.read_value-word.ensures ∙ c.in-String.is) in
-    let s = undoubled (drop c.in-String.field-0 b.line.now) in
-    simp (sym c.stands.ensures, c.if-stands.false, sym c.read_value-word.ensures, c.in-String.is)
-    (c.rest-in-String.ensures (string s ∷ []) refl (add-zero (length s) ∙ v.2.bytes))
-
-pub returns-in-Fault : goal.returns-in-Fault
-unfolding given_at
-returns-in-Fault c =
-    simp (sym c.stands.ensures, c.if-stands.false, sym c.read_value-word.ensures, c.in-Fault.is)
+returns c =
+    let line = c.args.line.now in
+    let v = value_of line c.in_ok-word.word in
+    let e = sym c.in_ok-word.was ∙ c.read_value.ensures in
+    simp (sym c.stands.ensures, c.if-stands.false)
+    (c.rest.ensures (v ∷ []) refl (add-zero (bytes_in v) ∙ value-long line c.args.at c.in_ok-word.word (sym e) ∙ sym c.long.ensures)
+    ∙ ap (λ (k : ℕ). taken (rest (v ∷ []) line k)) c.end.ensures
+    ∙ ap (λ (r : Result Word LineFault). taken (alone line r)) e)
