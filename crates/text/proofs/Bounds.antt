@@ -1,27 +1,27 @@
 -- A line opens at most one statement, and gives no more values and no more bytes in strings than it has bytes. Assumes nothing.
 use Prim.Native.Nat.{ℕ, ◌-◌, ◌≤◌, ◌<◌}
 use native.Mathlib.Omega.{arith}
-use mathlib.Core.Path.{◌≡◌, refl}
+use mathlib.Core.Path.{◌≡◌, refl, ap}
 use mathlib.Core.Bool.{Bool, true, false}
 use mathlib.Core.List.{List, [], ◌∷◌, map}
 use borrow.Author.Tests.{ltb-true}
 use lib.Dec.{ltb}
 use lib.ListN.{length, take, drop}
-use Rattle.std.specs.Prelude.{if◌then◌else◌}
+use Rattle.std.specs.Prelude.{Option, Some, None, Result, Ok, Err, if◌then◌else◌}
 use Rattle.plain.specs.Runs.{past}
 use Rattle.value.specs.Classes.{blank, name_byte}
 use Rattle.value.specs.declared.faults.Fault.{Fault}
+use Rattle.value.specs.declared.faults.LineFault.{LineFault}
 use Rattle.statement.specs.Values.{Given, given, wrong, listed, given_at}
 use Rattle.statement.specs.Statements.{Event, opened, value, openings, givings, bytes_given}
-use Rattle.statement.specs.Head.{head_named, head}
+use Rattle.statement.specs.Head.{head_named, opening, head}
 use Rattle.statement.specs.declared.values.Reader.{Reader}
 use Rattle.statement.specs.declared.values.Reader.TheVariants as R
-use Rattle.statement.specs.declared.head.Head.{Head}
-use Rattle.statement.specs.declared.head.Head.TheVariants as H
+use Rattle.statement.specs.declared.head.Named.{Named}
 use Rattle.statement.proofs.Bounds.{MostGiven, most-listed, most-given}
 use Rattle.statement.proofs.Events.{openings-append, givings-append, bytes_given-append, openings-values, givings-values, bytes_given-values}
 use Rattle.text.specs.Line.{Outcome, next, fault, adding, stated, section, answered, counted}
-use Rattle.text.specs.declared.line.Answer.TheVariants as A
+use Rattle.text.specs.declared.line.Step.{Step}
 use Rattle.text.proofs.Answers.{said, holds-section, holds-answered}
 
 -- at most one statement is opened and at most n values and n bytes are given
@@ -37,10 +37,11 @@ few-adding n es (given r vs) a b l h = (
   omega (arith, bytes_given-append es (map value vs), bytes_given-values vs),
 )
 
-few-stated : (line : List ℕ) (h : Head) → 0 < length line → Few (length line) (stated line h)
-few-stated line H.Blank h = (omega arith, omega arith, omega arith)
-few-stated line (H.Named n e o i) h = few-adding (length line) (opened (take (e - n) (drop n line)) o ∷ []) (given_at line i) (omega arith) refl refl (most-given line i h)
-few-stated line (H.Fault q k) h = tt
+few-stated : (line : List ℕ) (h : Result (Option Named) LineFault) → 0 < length line → Few (length line) (stated line h)
+few-stated line (Ok None) h = (omega arith, omega arith, omega arith)
+few-stated line (Ok (Some d)) h =
+    few-adding (length line) (opened (take (d.end - d.start) (drop d.start line)) d.operator ∷ []) (given_at line d.at) (omega arith) refl refl (most-given line d.at h)
+few-stated line (Err q) h = tt
 
 few_head : (line : List ℕ) → Few (length line) (stated line (head line))
 unfolding head
@@ -49,8 +50,8 @@ few_head line = by (ltb (past blank line 0) (length line)) refl
     n : ℕ
     n = past blank line 0
 
-    by : (t : Bool) → ltb n (length line) ≡ t → Few (length line) (stated line (if t then head_named line n (past name_byte line n) else H.Blank))
-    by true e = few-stated line (head_named line n (past name_byte line n)) (omega (arith, ltb-true n (length line) e))
+    by : (t : Bool) → ltb n (length line) ≡ t → Few (length line) (stated line (if t then opening (head_named line n (past name_byte line n)) else Ok None))
+    by true e = few-stated line (opening (head_named line n (past name_byte line n))) (omega (arith, ltb-true n (length line) e))
     by false e = (omega arith, omega arith, omega arith)
 
 few-said : (r : Reader) (line : List ℕ) → Few (length line) (said r line)
@@ -67,14 +68,12 @@ few-answered r line = holds-answered (Few (length line)) faulty r line (opens R.
     opens : (s : Reader) → Few (length line) (section r s)
     opens s = holds-section (Few (length line)) faulty r s (omega arith, omega arith, omega arith)
 
-counts-few : (n : ℕ) (o : Outcome) (s : Reader) (a b d : ℕ) → Few n o → counted o ≡ A.Next s a b d → (a ≤ 1) × (b ≤ n) × (d ≤ n)
-counts-few n (fault q k) s a b d f e = let z : ◌≡◌ {A = ℕ} 0 1 = cc in absurd (omega arith)
-counts-few n (next r es) s a b d f e =
-    let x : openings es ≡ a = cc in
-    let y : givings es ≡ b = cc in
-    let z : bytes_given es ≡ d = cc in
-    (omega arith, omega arith, omega arith)
+counts-few : (n : ℕ) (o : Outcome) (s : Step) → Few n o → counted o ≡ Ok s → (s.opened ≤ 1) × (s.given ≤ n) × (s.bytes ≤ n)
+counts-few n (fault q k) s f e = let z : ◌≡◌ {A = ℕ} 0 1 = cc in absurd (omega arith)
+counts-few n (next r es) s f e =
+    let q : record { reader = r; opened = openings es; given = givings es; bytes = bytes_given es } ≡ s = cc in
+    (omega (arith, ap (λ (x : Step). x.opened) q), omega (arith, ap (λ (x : Step). x.given) q), omega (arith, ap (λ (x : Step). x.bytes) q))
 
 -- the answer to a line
-pub line-counts : (r : Reader) (line : List ℕ) (s : Reader) (a b d : ℕ) → counted (answered r line) ≡ A.Next s a b d → (a ≤ 1) × (b ≤ length line) × (d ≤ length line)
-line-counts r line s a b d e = counts-few (length line) (answered r line) s a b d (few-answered r line) e
+pub line-counts : (r : Reader) (line : List ℕ) (s : Step) → counted (answered r line) ≡ Ok s → (s.opened ≤ 1) × (s.given ≤ length line) × (s.bytes ≤ length line)
+line-counts r line s e = counts-few (length line) (answered r line) s (few-answered r line) e

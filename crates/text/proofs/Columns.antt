@@ -10,16 +10,16 @@ use borrow.Author.Tests.{ltb-true, ltb-false}
 use lib.Dec.{ltb}
 use lib.ListN.{length, take, drop}
 use Rattle.plain.specs.Bytes.{fair}
-use Rattle.std.specs.Prelude.{if◌then◌else◌}
+use Rattle.std.specs.Prelude.{Option, Some, None, Result, Ok, Err, if◌then◌else◌}
 use Rattle.plain.specs.Runs.{past}
 use Rattle.plain.proofs.Tests.{true-false}
 use Rattle.value.specs.declared.faults.Fault.{Fault}
 use Rattle.value.specs.declared.faults.Fault.TheVariants as F
+use Rattle.value.specs.declared.faults.LineFault.{LineFault}
 use Rattle.statement.specs.Head.{head}
 use Rattle.statement.specs.Statements.{Event, opened}
 use Rattle.statement.specs.Values.{Given, given, wrong, listed, given_at}
-use Rattle.statement.specs.declared.head.Head.{Head}
-use Rattle.statement.specs.declared.head.Head.TheVariants as H
+use Rattle.statement.specs.declared.head.Named.{Named}
 use Rattle.statement.specs.declared.values.Reader.{Reader}
 use Rattle.statement.specs.declared.values.Reader.TheVariants as R
 use Rattle.statement.proofs.Pointed.{HeadUpTo, GivenUpTo, head-within, listed-within, given-within}
@@ -55,10 +55,10 @@ module _ (line : List ℕ) where
     points-adding es (given r vs) h = leaves r
     points-adding es (wrong q k) h = (h, omega arith)
 
-    points-stated : (h : Head) → HeadUpTo (length line) h → Points (length line) (stated line h)
-    points-stated H.Blank u = tt
-    points-stated (H.Named n e o i) u = points-adding (opened (take (e - n) (drop n line)) o ∷ []) (given_at line i) (given-within line i u)
-    points-stated (H.Fault q k) u = (u, omega arith)
+    points-stated : (h : Result (Option Named) LineFault) → HeadUpTo (length line) h → Points (length line) (stated line h)
+    points-stated (Ok None) u = tt
+    points-stated (Ok (Some h)) u = points-adding (opened (take (h.end - h.start) (drop h.start line)) h.operator ∷ []) (given_at line h.at) (given-within line h.at u)
+    points-stated (Err q) u = (u, omega arith)
 
     points-fairly : (o : Outcome) → Points (length line) o → Points (length line) (fairly line o)
     points-fairly o h = by (ltb (past fair line 0) (length line)) refl

@@ -10,13 +10,14 @@ use Rattle.plain.proofs.Each.{Each, each_append}
 use Rattle.decimal.specs.Class.{reading}
 use Rattle.decimal.specs.declared.Reading.TheVariants as D
 use Rattle.value.specs.Value.{Value}
+use Rattle.std.specs.Prelude.{Option, Some, None, Result, Ok, Err}
+use Rattle.value.specs.declared.faults.LineFault.{LineFault}
 use Rattle.statement.specs.Statements.{Event, opened, value, Statement, how_many, how_long, Gathered, gathered, statements, givings, bytes_given}
 use Rattle.statement.specs.Head.{head}
 use Rattle.statement.specs.Values.{bytes_in_all, Given, given, wrong, listed, given_at}
 use Rattle.statement.specs.declared.values.Reader.{Reader}
 use Rattle.statement.specs.declared.values.Reader.TheVariants as R
-use Rattle.statement.specs.declared.head.Head.{Head}
-use Rattle.statement.specs.declared.head.Head.TheVariants as H
+use Rattle.statement.specs.declared.head.Named.{Named}
 use Rattle.statement.specs.declared.head.Operator.{Operator}
 use Rattle.statement.specs.declared.values.Kind.{Kind}
 use Rattle.statement.specs.declared.values.Kind.TheVariants as K
@@ -142,10 +143,10 @@ module _ (P : ℕ → Type 0) where
   from-sound r (refused q n k) es h e = let z : ◌≡◌ {A = ℕ} 0 1 = cc in absurd (omega arith)
 
   module _ (read : (bs : List ℕ) (x : Float) → reading bs ≡ D.Number x → P (to_bits binary64 x)) where
-    step-stated : (line : List ℕ) (h : Head) → FairLine line → LegalHead line h → Step P R.Data (stated line h)
-    step-stated line H.Blank f l = λ es e. e
-    step-stated line (H.Named n e o i) f l = step-statement (take (e - n) (drop n line)) o (given_at line i) l (good-given P read line f i)
-    step-stated line (H.Fault q k) f l = tt
+    step-stated : (line : List ℕ) (h : Result (Option Named) LineFault) → FairLine line → LegalHead line h → Step P R.Data (stated line h)
+    step-stated line (Ok None) f l = λ es e. e
+    step-stated line (Ok (Some h)) f l = step-statement (take (h.end - h.start) (drop h.start line)) h.operator (given_at line h.at) l (good-given P read line f h.at)
+    step-stated line (Err q) f l = tt
 
     step-said : (r : Reader) (line : List ℕ) → FairTo r line → Step P r (said r line)
     step-said R.Text line f = λ es e. e

@@ -11,4 +11,4 @@ pub mod Passing
 pub mod FirstFault
 pub mod Columns
 pub mod Legal
-pub mod Counts
+pub mod Totals

@@ -1,22 +1,21 @@
 -- The answer to one line: what it adds and how the reader stands after it, or its first fault. Definitions only.
-use Rattle.std.specs.Prelude.{ℕ, ◌-◌, List, [], ◌∷◌, ◌++◌, map, ltb, length, take, drop, if◌then◌else◌}
+use Rattle.std.specs.Prelude.{ℕ, ◌-◌, List, [], ◌∷◌, ◌++◌, Option, Some, None, Result, Ok, Err, map, ltb, length, take, drop, if◌then◌else◌}
 use Rattle.plain.specs.Bytes.{fair}
 use Rattle.plain.specs.Runs.{past}
 use Rattle.value.specs.declared.faults.Fault.{Fault}
 use Rattle.value.specs.declared.faults.Fault.TheVariants as F
+use Rattle.value.specs.declared.faults.LineFault.{LineFault}
+use Rattle.value.specs.Faults.{faulty}
 use Rattle.statement.specs.Values.{Given, given, wrong, listed, given_at}
 use Rattle.statement.specs.Statements.{Event, opened, value, openings, givings, bytes_given}
 use Rattle.statement.specs.Head.{head}
-use Rattle.statement.specs.declared.head.Head.{Head}
-use Rattle.statement.specs.declared.head.Head.TheVariants as H
+use Rattle.statement.specs.declared.head.Named.{Named}
 use Rattle.statement.specs.declared.values.Reader.{Reader}
 use Rattle.statement.specs.declared.values.Reader.TheVariants as R
-use Rattle.statement.specs.declared.values.Taken.{Taken}
-use Rattle.statement.specs.declared.values.Taken.TheVariants as T
+use Rattle.statement.specs.declared.values.Values.{Values}
 use Rattle.text.specs.Delimiters.{mark_of}
 use Rattle.text.specs.Lengths.{LONGEST_LINE, too_long}
-use Rattle.text.specs.declared.line.Answer.{Answer}
-use Rattle.text.specs.declared.line.Answer.TheVariants as A
+use Rattle.text.specs.declared.line.Step.{Step}
 use Rattle.text.specs.declared.delimiters.Mark.{Mark}
 use Rattle.text.specs.declared.delimiters.Mark.TheVariants as M
 
@@ -32,10 +31,10 @@ adding es (wrong q k) = fault q k
 -- ---- a data line
 
 -- a statement, or a line of blanks
-abbrev pub stated : List ℕ → Head → Outcome
-stated line H.Blank = next R.Data []
-stated line (H.Named n e o i) = adding (opened (take (e - n) (drop n line)) o ∷ []) (given_at line i)
-stated line (H.Fault q k) = fault q k
+abbrev pub stated : List ℕ → Result (Option Named) LineFault → Outcome
+stated line (Ok None) = next R.Data []
+stated line (Ok (Some h)) = adding (opened (take (h.end - h.start) (drop h.start line)) h.operator ∷ []) (given_at line h.at)
+stated line (Err f) = fault f.fault f.place
 
 -- "Data lines hold bytes 32 to 126 and tabs only", and "4 points to the byte": the first that is none of them, before all else
 abbrev pub fairly : List ℕ → Outcome → Outcome
@@ -67,11 +66,18 @@ answered r line = if too_long (mark_of line) r (length line) then fault F.TooLon
 
 -- ---- the answer as the code gives it: how many statements are opened, how many values given, and how many bytes in strings
 
-abbrev pub counted : Outcome → Answer
-counted (next r es) = A.Next r (openings es) (givings es) (bytes_given es)
-counted (fault q k) = A.Fault q k
+abbrev pub counted : Outcome → Result Step LineFault
+counted (next r es) = Ok (record { reader = r; opened = openings es; given = givings es; bytes = bytes_given es })
+counted (fault q k) = Err (faulty q k)
+
+-- of a line that adds nothing
+abbrev pub leaving : Reader → Step
+leaving r = record { reader = r; opened = 0; given = 0; bytes = 0 }
 
 -- of a line that opens so many statements and then takes values
-abbrev pub answer_of : (opened : ℕ) → Taken → Answer
-answer_of n (T.Values r k b) = A.Next r n k b
-answer_of n (T.Fault q k) = A.Fault q k
+abbrev pub stepped : (opened : ℕ) → Values → Step
+stepped n v = record { reader = v.reader; opened = n; given = v.given; bytes = v.bytes }
+
+abbrev pub answer_of : (opened : ℕ) → Result Values LineFault → Result Step LineFault
+answer_of n (Ok v) = Ok (stepped n v)
+answer_of n (Err f) = Err f

@@ -1,14 +1,16 @@
 -- A whole text: its lines, one after the other, up to the first faulty one. Definitions only.
-use Rattle.std.specs.Prelude.{ℕ, ◌+◌, List, [], ◌∷◌, ◌++◌, length}
+use Rattle.std.specs.Prelude.{ℕ, ◌+◌, List, [], ◌∷◌, ◌++◌, Result, Ok, Err, length}
 use Rattle.value.specs.declared.faults.Fault.{Fault}
 use Rattle.value.specs.declared.faults.Fault.TheVariants as F
+use Rattle.value.specs.declared.faults.LineFault.{LineFault}
+use Rattle.value.specs.Faults.{faulty}
 use Rattle.statement.specs.Statements.{Event, openings, givings, bytes_given}
 use Rattle.statement.specs.declared.values.Reader.{Reader}
 use Rattle.statement.specs.declared.values.Reader.TheVariants as R
 use Rattle.text.specs.Lines.{lines}
 use Rattle.text.specs.Line.{Outcome, next, fault, answered}
-use Rattle.text.specs.declared.Checked.{Checked}
-use Rattle.text.specs.declared.Checked.TheVariants as C
+use Rattle.text.specs.declared.Counts.{Counts}
+use Rattle.text.specs.declared.TextFault.{TextFault}
 
 -- all that a text adds, or its first fault with the line's number and the place in the line
 pub data Read : Type 0 where
@@ -41,9 +43,12 @@ unfolding read_from
 read_text text = read_from R.Text 0 0 (lines text)
 
 -- the answer as the code gives it: how many statements, values and bytes in strings, or the fault, its line and its place
-abbrev pub tallied : Read → Checked
-tallied (fine es) = C.Admitted (openings es) (givings es) (bytes_given es)
-tallied (refused q n k) = C.Refused q n k
+abbrev pub in_line : (line : ℕ) → LineFault → TextFault
+in_line n f = record { fault = f.fault; line = n; place = f.place }
+
+abbrev pub tallied : Read → Result Counts TextFault
+tallied (fine es) = Ok (record { statements = openings es; values = givings es; bytes = bytes_given es })
+tallied (refused q n k) = Err (in_line n (faulty q k))
 
 -- what a text adds, if the rules admit it
 abbrev pub added : Read → List Event

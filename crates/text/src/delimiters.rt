@@ -1,5 +1,5 @@
 // Delimiter lines: document 01, "a line that, without outer blanks, is exactly `\begindata` or `\begintext`".
-ghost use Rattle.std.specs.Prelude.{◌≡◌, drop};
+ghost use Rattle.std.specs.Prelude.{◌≡◌};
 ghost use Rattle.text.specs.Delimiters.{word, mark_of};
 
 use value::classes;
@@ -18,30 +18,22 @@ pub fn read_mark(line: &[u8]) -> Mark
     ensures { result ≡ mark_of line.now }
 {
     let at = classes::past(Class::Blank, line, 0);
-    if is_word(b"\\begindata", line, at) {
+    let rest = &line[at..];
+    if is_word(b"\\begindata", rest) {
         return Mark::Data;
     }
-    if is_word(b"\\begintext", line, at) {
+    if is_word(b"\\begintext", rest) {
         return Mark::Text;
     }
     Mark::Plain
 }
 
-// The line from `at` on is the word, and then blanks only.
-fn is_word(expected: &[u8], line: &[u8], at: usize) -> bool
-    ensures { result ≡ word expected.now (drop at line.now) }
+// The bytes are the word, and then blanks only.
+fn is_word(expected: &[u8], bytes: &[u8]) -> bool
+    ensures { result ≡ word expected.now bytes.now }
 {
-    let mut i = at;
-    let mut j = 0;
-    while j < expected.len() {
-        if line.len() <= i {
-            return false;
-        }
-        if line[i] != expected[j] {
-            return false;
-        }
-        i += 1;
-        j += 1;
+    match bytes.strip_prefix(expected) {
+        Some(after) => after.len() <= classes::past(Class::Blank, after, 0),
+        None => false,
     }
-    line.len() <= classes::past(Class::Blank, line, i)
 }

@@ -6,22 +6,33 @@ pub mod lengths;
 pub mod line;
 pub mod lines;
 
-ghost use Rattle.std.specs.Prelude.{◌≡◌, ℕ};
-ghost use Rattle.text.specs.Text.{read_text, tallied};
+ghost use Rattle.std.specs.Prelude.{◌≡◌, Err};
+ghost use Rattle.value.specs.declared.faults.LineFault.{LineFault};
+ghost use Rattle.text.specs.Text.{read_text, tallied, in_line};
 
-use crate::line::Answer;
+use crate::line::Step;
 use statement::values::Reader;
-use value::faults::Fault;
+use value::faults::{Fault, LineFault};
 
-// How many statements and values a text has and how many bytes in strings, or its first fault, the fault's line and its place there.
+// How many statements and values a text has, and how many bytes in strings.
 #[derive(Clone, Copy)]
-pub enum Checked {
-    Admitted(usize, usize, usize),
-    Refused(Fault, usize, usize),
+pub struct Counts {
+    pub statements: usize,
+    pub values: usize,
+    pub bytes: usize,
 }
 
-// The text admitted with its counts, or refused at its first faulty line.
-pub fn check(text: &[u8]) -> Checked
+// A text's first fault, its line, counted from 1, and its place there, counted from 0.
+#[derive(Clone, Copy)]
+pub struct TextFault {
+    pub fault: Fault,
+    pub line: usize,
+    pub place: usize,
+}
+
+// The text admitted with its counts, or refused at its first faulty line. `let .. else` takes a line's answer apart: a form that document
+// 01 names. The loop is a `while`, for its place goes on by a line.
+pub fn check(text: &[u8]) -> Result<Counts, TextFault>
     ensures { result ≡ tallied (read_text text.now) }
 {
     let mut reader = Reader::Text;
@@ -35,30 +46,45 @@ pub fn check(text: &[u8]) -> Checked
         let cut = lines::cut_line(text, at);
         let end = cut.end;
         let answer = line::line_step(reader, &text[at..end]);
-        let Answer::Next(next, opened, given, in_strings) = answer else {
+        let Ok(step) = answer else {
             return refused(answer, number + 1);
         };
-        reader = next;
+        reader = step.reader;
         long = end - at;
         at = cut.next;
         number += 1;
-        statements += opened;
-        values += given;
-        bytes += in_strings;
+        statements += step.opened;
+        values += step.given;
+        bytes += step.bytes;
     }
-    match reader {
-        Reader::Text => Checked::Admitted(statements, values, bytes),
-        Reader::Data => Checked::Admitted(statements, values, bytes),
-        Reader::List(_) => Checked::Refused(Fault::OpenList, number, long),
+    if let Reader::List(_) = reader {
+        return Err(TextFault {
+            fault: Fault::OpenList,
+            line: number,
+            place: long,
+        });
     }
+    Ok(Counts {
+        statements,
+        values,
+        bytes,
+    })
 }
 
 // The refusal of a line's fault, with the line's number. (An answer without fault is never asked about.)
-fn refused(answer: Answer, number: usize) -> Checked
-    ensures { (q : Fault) (k : ℕ) → answer ≡ Answer.Fault q k → result ≡ Checked.Refused q number k }
+fn refused(answer: Result<Step, LineFault>, number: usize) -> Result<Counts, TextFault>
+    ensures { (f : LineFault) → answer ≡ Err f → result ≡ Err (in_line number f) }
 {
     match answer {
-        Answer::Next(_, opened, given, bytes) => Checked::Admitted(opened, given, bytes),
-        Answer::Fault(fault, place) => Checked::Refused(fault, number, place),
+        Ok(step) => Ok(Counts {
+            statements: step.opened,
+            values: step.given,
+            bytes: step.bytes,
+        }),
+        Err(found) => Err(TextFault {
+            fault: found.fault,
+            line: number,
+            place: found.place,
+        }),
     }
 }

@@ -1,7 +1,7 @@
 -- `check` meets its contract: the counts of the lines passed and what is left to read make the whole text's answer. Assumes nothing.
 use native.Mathlib.Omega.{arith}
 use mathlib.Core.Path.{◌∙◌}
-use Rattle.text.proofs.Tallies.{at_first, turn, turn-off, end-admits, end-refuses}
+use Rattle.text.proofs.Tallies.{at_first, turn, turn-off, closed, end-admits, end-refuses}
 use Rattle.text.proofs.check.Goals as goal
 
 pub loop-at-init : goal.loop-at-init
@@ -23,7 +23,7 @@ overflow_add-number c =
 
 pub returns-in_default : goal.returns-in_default
 returns-in_default c =
-    c.refused.ensures _ _ c.in_default.is ∙ turn-off _ _ _ c.cut_line-cut.ensures _ _ _ _ _ _ _ c.line_step-answer.ensures _ _ c.in_default.is ∙ c.loop-at.invariant.left
+    c.refused.ensures _ c.in_default.is ∙ turn-off _ _ _ c.cut_line-cut.ensures _ _ _ _ _ _ _ c.line_step-answer.ensures _ c.in_default.is ∙ c.loop-at.invariant.left
 
 pub overflow_sub-long : goal.overflow_sub-long
 overflow_sub-long c = omega (arith, c.cut_line-cut.ensures.starts)
@@ -33,17 +33,17 @@ overflow_add-number-in-loop-at c = omega (arith, c.loop-at.invariant.counts)
 
 pub overflow_add-statements : goal.overflow_add-statements
 overflow_add-statements c =
-    let f = turn _ _ _ _ _ _ _ _ c.loop-at.invariant _ c.cut_line-cut.ensures _ c.line_step-answer.ensures _ _ _ _ c.in-Next.is in
+    let f = turn _ _ _ _ _ _ _ _ c.loop-at.invariant _ c.cut_line-cut.ensures _ c.line_step-answer.ensures _ c.in-Ok.is in
     omega (arith, f.opens, f.counts, f.stays)
 
 pub overflow_add-values : goal.overflow_add-values
 overflow_add-values c =
-    let f = turn _ _ _ _ _ _ _ _ c.loop-at.invariant _ c.cut_line-cut.ensures _ c.line_step-answer.ensures _ _ _ _ c.in-Next.is in
+    let f = turn _ _ _ _ _ _ _ _ c.loop-at.invariant _ c.cut_line-cut.ensures _ c.line_step-answer.ensures _ c.in-Ok.is in
     omega (arith, f.gives, f.stays)
 
 pub overflow_add-bytes : goal.overflow_add-bytes
 overflow_add-bytes c =
-    let f = turn _ _ _ _ _ _ _ _ c.loop-at.invariant _ c.cut_line-cut.ensures _ c.line_step-answer.ensures _ _ _ _ c.in-Next.is in
+    let f = turn _ _ _ _ _ _ _ _ c.loop-at.invariant _ c.cut_line-cut.ensures _ c.line_step-answer.ensures _ c.in-Ok.is in
     omega (arith, f.spells, f.stays)
 
 pub loop-at-smaller : goal.loop-at-smaller
@@ -52,19 +52,14 @@ loop-at-smaller c =
 
 pub loop-at-preserved : goal.loop-at-preserved
 loop-at-preserved c =
-    turn _ _ _ _ _ _ _ _ c.loop-at.invariant _ c.cut_line-cut.ensures _ c.line_step-answer.ensures _ _ _ _ c.in-Next.is
-
-pub returns-in-Text : goal.returns-in-Text
-returns-in-Text c =
-    let a = c.loop-at in
-    end-admits _ a.at _ a.number a.long _ _ _ c.loop-at-test.false (rw c.in-Text.is) ∙ a.invariant.left
-
-pub returns-in-Data : goal.returns-in-Data
-returns-in-Data c =
-    let a = c.loop-at in
-    end-admits _ a.at _ a.number a.long _ _ _ c.loop-at-test.false (rw c.in-Data.is) ∙ a.invariant.left
+    turn _ _ _ _ _ _ _ _ c.loop-at.invariant _ c.cut_line-cut.ensures _ c.line_step-answer.ensures _ c.in-Ok.is
 
 pub returns-in-List : goal.returns-in-List
 returns-in-List c =
     let a = c.loop-at in
     end-refuses _ a.at _ a.number a.long _ _ _ c.loop-at-test.false (rw c.in-List.is) ∙ a.invariant.left
+
+pub returns : goal.returns
+returns c =
+    let a = c.loop-at in
+    end-admits _ a.at _ a.number a.long _ _ _ c.loop-at-test.false (closed a.reader a.number a.long c.in_default-reader.not-List) ∙ a.invariant.left
