@@ -9,12 +9,12 @@ use mathlib.Core.List.{List, [], ◌∷◌, ◌++◌, append_assoc, append-nil}
 use borrow.Author.Tests.{lt-ltb, le-ltb}
 use lib.ListN.{length, take, drop, get_or, set, length-append, length-drop, drop_of_length-le}
 use lib.Seq.{drop-cons, drop-drop, get_or-append-add, get_or-drop, get_or-take, length-take-le, set_split}
-use lib.Seq.{paste, paste-suc, take_at, take-length, take-paste, take-suc, take-suc-set}
+use lib.Seq.{take_at, take-suc}
 use Rattle.std.specs.Prelude.{if◌then◌else◌}
 use Rattle.value.specs.Classes.{blank}
 use Rattle.text.specs.Lengths.{LONGEST_LINE}
 use Rattle.feeding.specs.Kept.{ROOM, squeezed, keep, keep_all}
-use Rattle.feeding.specs.Stored.{slid}
+use Rattle.feeding.specs.Slid.{slid}
 
 pub keep_all-append : (k xs ys : List ℕ) → keep_all k (xs ++ ys) ≡ keep_all (keep_all k xs) ys
 keep_all-append k [] ys = refl
@@ -31,21 +31,6 @@ keep_all-room k (b ∷ bs) h =
 pub keep-full : (k : List ℕ) (b : ℕ) → length k ≡ ROOM → keep k b ≡ squeezed k b
 unfolding keep
 keep-full k b h = rw (le-ltb (length k) ROOM (omega arith))
-
--- ---- bytes written one by one
-
--- behind those in use
-pub store-on : (bytes : List ℕ) (used : ℕ) (run : List ℕ) (i : ℕ) (now : List ℕ) → now ≡ paste bytes used run i → used + i < length bytes → i < length run
-    → set now (used + i) (get_or run i 0) ≡ paste bytes used run (i + 1)
-store-on bytes used run i now e h g = rw (e, add-one i) (paste-suc bytes used run i 0 h g)
-
-pub store-all : (bytes : List ℕ) (used : ℕ) (run : List ℕ) (i : ℕ) (now : List ℕ) → now ≡ paste bytes used run i → i ≡ length run → used ≤ length bytes
-    → take (used + length run) now ≡ take used bytes ++ run
-store-all bytes used run i now e f h = rw (e, f) (take-paste bytes used run (length run) h (omega arith) ∙ rw (take-length run))
-
--- the first i of some bytes t in their places
-pub place-on : (t now : List ℕ) (i b : ℕ) → i < length now → i < length t → take i now ≡ take i t → b ≡ get_or t i 0 → take (i + 1) (set now i b) ≡ take (i + 1) t
-place-on t now i b h g e f = rw (add-one i, take-suc-set now i b h, e, f, take-suc t i 0 g)
 
 -- ---- blanks in front
 

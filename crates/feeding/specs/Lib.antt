@@ -4,3 +4,4 @@ pub mod Parts
 pub mod Reading
 -- as the code keeps it
 pub mod Stored
+pub mod Slid

@@ -1,30 +1,15 @@
 -- The line that goes on as the code keeps it, at the start of an array: its bytes, and those that make it longer. Definitions only.
-use Rattle.std.specs.Prelude.{ℕ, ◌≤◌, ◌<◌, ◌≡◌, Bool, false, List, ◌++◌, length, take, drop, get_or}
-use Rattle.value.specs.Classes.{blank}
-use Rattle.feeding.specs.Kept.{ROOM, keep_all, settled}
+use Rattle.std.specs.Prelude.{ℕ, ◌≡◌, Bool, List, length, take}
+use Rattle.feeding.specs.Kept.{keep_all, settled}
 use Rattle.feeding.specs.declared.kept.Kept.{Kept}
 
 abbrev pub line : Kept → List ℕ
 line k = take k.used k.bytes
 
 pub record Keeps (k : Kept) (run : List ℕ) (r : Kept) : Type 0 where
-  pub room : r.used ≤ ROOM
   pub long : length (line r) ≡ r.used
   pub is : line r ≡ keep_all (line k) run
 
 pub record Settles (k : Kept) (pending : Bool) (r : Kept) : Type 0 where
-  pub room : r.used ≤ ROOM
   pub long : length (line r) ≡ r.used
   pub is : line r ≡ settled (line k) pending
-
--- ---- a full line, and bytes that come after it
-
--- what is kept after so many blanks in front are gone
-abbrev pub slid : (full run : List ℕ) → (gone : ℕ) → List ℕ
-slid full run gone = take ROOM (drop gone (full ++ run))
-
--- how many blanks in front go: one for each byte of the run, up to a byte that is none
-pub record Slides (full run : List ℕ) (gone : ℕ) : Type 0 where
-  pub within : gone ≤ length run
-  pub stops : gone < length run → blank (get_or (full ++ run) gone 0) ≡ false
-  pub is : keep_all full run ≡ keep_all (slid full run gone) (drop gone run)
