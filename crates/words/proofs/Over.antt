@@ -1,13 +1,14 @@
 -- Words written over others: what stays, what is read back, and which writings may change places. Assumes nothing.
-use mathlib.Core.Path.{◌≡◌, refl, sym, ap, ap₂, ◌∙◌}
+use mathlib.Core.Path.{◌≡◌, refl, sym, ap, ap₂, subst, ◌∙◌}
 use mathlib.Core.List.{List, [], ◌∷◌, ◌++◌, map}
 use Prim.Native.Nat.{ℕ, zero, suc, ◌+◌, ◌-◌, ◌≤◌, ◌<◌}
 use native.Mathlib.Numerals.{add-one}
 use native.Mathlib.Nat.{zero-add, suc-add, le_of_suc-le-suc, not-suc-le-zero}
 use native.Mathlib.Omega.{arith}
-use lib.ListN.{length, take, drop, get_or, set, length-map, length-drop, get_or-map}
-use lib.Seq.{take-suc, length-take-le, get_or-drop}
-use Rattle.words.specs.Over.{over, part, moved}
+use lib.ListN.{length, take, drop, get_or, set, length-map, get_or-map}
+use lib.Seq.{take-suc, length-take-le, paste}
+use Rattle.std.proofs.lemmas.List.{append_assoc, drop-drop}
+use Rattle.words.specs.Over.{over, part}
 use Rattle.plain.proofs.Each.{Each}
 
 -- a place that lies before what begins at 0
@@ -143,6 +144,13 @@ put_back {A} a n ys m h l =
     let e : a + n - a ≡ length ys = omega arith in
     ap (λ (k : ℕ). take a m ++ (ys ++ drop k (drop a m))) e ∙ put-at a ys m (omega arith)
 
+-- as `copy_within` leaves it
+pub paste-over : {A : Type 0} (at n : ℕ) (xs m : List A) → n ≤ length xs → at + n ≤ length m → paste m at xs n ≡ over at (take n xs) m
+paste-over {A} at n xs m h k =
+    let l : length (take n xs) ≡ n = length-take-le n xs h in
+    let e : drop (at + n) m ≡ drop n (drop at m) = sym (drop-drop n at m) in
+    rw (append_assoc, e) (subst (λ (i : ℕ). take at m ++ (take n xs ++ drop i (drop at m)) ≡ over at (take n xs) m) l (put-at at (take n xs) m (omega arith)))
+
 -- ---- two writings that do not meet
 
 pub over-comm : {A : Type 0} (a : ℕ) (xs : List A) (b : ℕ) (ys m : List A) → a + length xs ≤ b → over b ys (over a xs m) ≡ over a xs (over b ys m)
@@ -207,15 +215,6 @@ over-turn-map {B = B} f at xs m j d h =
     ap₂ (λ (r : List B) (y : B). set (over at r m) (at + j) y) (map-take f j xs) (sym (get_or-map f xs j d))
     ∙ over-turn at (map f xs) m j (f d) (omega (arith, length-map xs f))
     ∙ ap (λ (r : List B). over at r m) (sym (map-take f (j + 1) xs))
-
--- the same within one list, downwards: the word to read is not yet written over
-pub moved-turn : {A : Type 0} (to from n j : ℕ) (m : List A) (d : A) → to ≤ from → from + n ≤ length m → j < n
-    → set (moved to from j m) (to + j) (get_or (moved to from j m) (from + j) d) ≡ moved to from (j + 1) m
-moved-turn {A} to from n j m d h k l =
-    let r : length (drop from m) ≡ length m - from = length-drop from m in
-    let p : length (take j (drop from m)) ≡ j = length-take-le j (drop from m) (omega arith) in
-    let e : get_or (moved to from j m) (from + j) d ≡ get_or (drop from m) j d = get_or-over-after to (take j (drop from m)) m (from + j) d (omega arith) ∙ sym (get_or-drop from m j d) in
-    ap (λ (v : A). set (moved to from j m) (to + j) v) e ∙ over-turn to (drop from m) m j d (omega arith)
 
 -- ---- a fact of every word, of those that are written and of those that were there
 

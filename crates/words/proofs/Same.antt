@@ -1,13 +1,12 @@
 -- Two lists of words are found the same exactly when they are equal. Assumes nothing.
-use mathlib.Core.Path.{◌≡◌, refl, sym, ap, ap₂}
-use mathlib.Core.Bool.{true, false}
+use mathlib.Core.Path.{◌≡◌, refl, sym, ap₂}
+use mathlib.Core.Bool.{true}
 use mathlib.Core.List.{List, [], ◌∷◌}
 use Prim.Native.Nat.{ℕ}
 use borrow.Author.Tests.{eqb-true, eq-eqb}
 use lib.Dec.{eqb}
-use lib.ListN.{length}
 use Rattle.plain.specs.Lists.{equal}
-use Rattle.plain.proofs.Tests.{both, true-false, is_false}
+use Rattle.plain.proofs.Tests.{both, true-false}
 
 pub same_refl : (xs : List ℕ) → equal xs xs ≡ true
 unfolding equal
@@ -22,7 +21,3 @@ same-equal (x ∷ xs) [] e = true-false (sym e)
 same-equal (x ∷ xs) (y ∷ ys) e =
     let b = both (eqb x y) (equal xs ys) e in
     ap₂ (λ (z : ℕ) (zs : List ℕ). z ∷ zs) (eqb-true x y b.0) (same-equal xs ys b.1)
-
--- lists of two lengths are never the same
-pub same-lengths : (xs ys : List ℕ) → (length xs ≡ length ys → ⊥) → false ≡ equal xs ys
-same-lengths xs ys n = sym (is_false (equal xs ys) (λ e. n (ap length (same-equal xs ys e))))

@@ -1,5 +1,5 @@
 -- A word as two halves: an upper number · 2^32 + a lower number. Definitions only.
-use Rattle.std.specs.Prelude.{ℕ, suc, ◌+◌, ◌*◌, ◌/◌, ◌%◌, Bool, true, false, List, [], ◌∷◌, eqb, ltb, length, if◌then◌else◌}
+use Rattle.std.specs.Prelude.{ℕ, suc, ◌+◌, ◌*◌, ◌/◌, ◌%◌, Bool, true, false, List, [], ◌∷◌, eqb, ltb, length, if◌then◌else◌, Option, None, Some}
 
 -- 2^32
 abbrev pub HALF : ℕ
@@ -23,6 +23,10 @@ sum (w ∷ ws) = lower w + sum ws
 unfoldable pub place : ℕ → List ℕ → ℕ
 place u [] = 0
 place u (w ∷ ws) = if eqb (upper w) u then 0 else suc (place u ws)
+
+-- the same as what is found: nothing where no word has it
+abbrev pub found : ℕ → List ℕ → Option ℕ
+found u ws = if ltb (place u ws) (length ws) then Some (place u ws) else None
 
 -- no two words have one upper number
 unfoldable pub distinct : List ℕ → Bool

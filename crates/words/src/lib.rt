@@ -3,6 +3,7 @@
 
 pub mod bytes;
 pub mod compare;
+pub mod half;
 pub mod read;
 pub mod scan;
 pub mod write;

@@ -11,16 +11,13 @@ pub fn store(m: &mut [u64], at: usize, w: u64)
     }
 }
 
-// Some words are written from a place on.
-pub fn put(m: &mut [u64], at: usize, ws: &[u64])
+// Some elements are written from a place on.
+pub fn put<T: Copy>(m: &mut [T], at: usize, ws: &[T])
     requires { at + length ws.now ≤ length m.old }
     ensures { m.new ≡ over at ws.now m.old }
 {
-    let mut i = 0;
-    while i < ws.len() {
-        m[at + i] = ws[i];
-        i += 1;
-    }
+    let end = at + ws.len();
+    m[at..end].copy_from_slice(ws);
 }
 
 // The n words from place `from` on are moved down to place `to`.
@@ -28,9 +25,6 @@ pub fn shift(m: &mut [u64], to: usize, from: usize, n: usize)
     requires { (to ≤ from) × (from + n ≤ length m.old) }
     ensures { m.new ≡ moved to from n m.old }
 {
-    let mut j = 0;
-    while j < n {
-        m[to + j] = m[from + j];
-        j += 1;
-    }
+    let end = from + n;
+    m.copy_within(from..end, to);
 }

@@ -1,35 +1,34 @@
 -- `all_distinct` meets its contract: what is left is distinct exactly when all is, since each word passed stands only once.
 -- Assumes nothing.
-use Prim.Native.Nat.{ℕ, ◌+◌, ◌≤◌, ◌<◌, ◌-◌}
-use mathlib.Core.Path.{◌≡◌, refl, ap, ◌∙◌}
+use Prim.Native.Nat.{ℕ, ◌+◌, ◌-◌}
+use mathlib.Core.Path.{◌≡◌, sym, ap, ap₂, ◌∙◌}
 use mathlib.Core.List.{List}
-use native.Mathlib.Omega.{arith}
-use borrow.Author.Rules.{rules}
-use lib.ListN.{length, drop, take}
-use Rattle.words.specs.Halves.{place}
+use lib.ListN.{length, drop, take, get_or}
+use Rattle.std.specs.Prelude.{Option}
+use Rattle.std.specs.Option.{is_some}
+use Rattle.words.specs.Halves.{upper, found}
+use Rattle.words.proofs.Chains.{found-within, found-beyond}
 use Rattle.words.proofs.Steps.{distinct-next, distinct-stop, distinct-end, rest_part}
 use Rattle.words.proofs.scan.all_distinct.Goals as goal
 
-pub loop-i-init : goal.loop-i-init
-loop-i-init c = (search rules, refl)
-
 -- what `place_of` says of the part that is lent, said of what is left
-module _ (ws : List ℕ) (a u r : ℕ) (e : r ≡ place u (take (length ws - a) (drop a ws))) where
-  within : r < length (take (length ws - a) (drop a ws)) → place u (drop a ws) < length (drop a ws)
-  within h = let q = rest_part ws a in omega (arith, e ∙ ap (place u) q, ap length q)
+rest : (ws : List ℕ) (i u : ℕ) (r : Option ℕ) → u ≡ upper (get_or ws i 0) → r ≡ found u (take (length ws - (i + 1)) (drop (i + 1) ws))
+    → is_some r ≡ is_some (found (upper (get_or ws i 0)) (drop (i + 1) ws))
+rest ws i u r e f = ap is_some (f ∙ ap₂ found e (rest_part ws (i + 1)))
 
-  beyond : length (take (length ws - a) (drop a ws)) ≤ r → length (drop a ws) ≤ place u (drop a ws)
-  beyond h = let q = rest_part ws a in omega (arith, e ∙ ap (place u) q, ap length q)
-
-pub returns-then-place_of-rest : goal.returns-then-place_of-rest
-returns-then-place_of-rest c =
-    let l = c.loop-i in
-    distinct-stop _ _ c.loop-i-test.true (within c.args.ws.now (l.i + 1) _ _ c.place_of.ensures c.if-place_of-rest.true) ∙ l.invariant.1
+pub returns-then-is_some : goal.returns-then-is_some
+returns-then-is_some c =
+    let ws = c.args.ws.now in
+    let i = c.loop-i.i in
+    let s = sym (rest ws i _ _ c.upper.ensures c.place_of.ensures) ∙ sym c.is_some.ensures ∙ c.if-is_some.true in
+    distinct-stop ws i c.loop-i-test.true (found-within _ _ s) ∙ c.loop-i.invariant
 
 pub loop-i-preserved : goal.loop-i-preserved
 loop-i-preserved c =
-    let l = c.loop-i in
-    (omega arith, distinct-next _ _ c.loop-i-test.true (beyond c.args.ws.now (l.i + 1) _ _ c.place_of.ensures c.if-place_of-rest.false) ∙ l.invariant.1)
+    let ws = c.args.ws.now in
+    let i = c.loop-i.i in
+    let s = sym (rest ws i _ _ c.upper.ensures c.place_of.ensures) ∙ sym c.is_some.ensures ∙ c.if-is_some.false in
+    distinct-next ws i c.loop-i-test.true (found-beyond _ _ s) ∙ c.loop-i.invariant
 
 pub returns : goal.returns
-returns c = distinct-end _ _ c.loop-i.invariant.0 c.loop-i-test.false ∙ c.loop-i.invariant.1
+returns c = distinct-end _ _ c.loop-i.auto.i-end c.loop-i-test.false ∙ c.loop-i.invariant

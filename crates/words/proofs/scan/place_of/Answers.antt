@@ -1,20 +1,18 @@
--- `place_of` meets its contract: the place is as far on as the place in what is left. Assumes nothing.
-use native.Mathlib.Omega.{arith}
-use borrow.Author.Tests.{eq-eqb, ne_eqb}
-use Rattle.words.proofs.Steps.{place_here, place-next, place_end}
+-- `place_of` meets its contract: what is found is at the place of the number. Assumes nothing.
+use mathlib.Core.Path.{ap, ◌∙◌}
+use mathlib.Core.Bool.{cond}
+use Prim.Native.Nat.{ℕ}
+use Rattle.std.proofs.Common.{rules, tests, Some, None}
+use Rattle.std.proofs.lemmas.Iterator.{YieldsList-from_slice}
+use Rattle.std.proofs.lemmas.Iterator.Search.{position_from_yields_List}
+use lib.Dec.{eqb, ltb}
+use lib.ListN.{length}
+use Rattle.words.specs.Halves.{upper}
+use Rattle.words.proofs.Chains.{position-place}
 use Rattle.words.proofs.scan.place_of.Goals as goal
-
-pub returns-then-ws-i : goal.returns-then-ws-i
-returns-then-ws-i c =
-    let a = c.args in
-    omega (arith, place_here a.upper a.ws.now c.loop-i.i c.loop-i-test.true (eq-eqb _ _ c.if-ws-i.true))
-
-pub loop-i-preserved : goal.loop-i-preserved
-loop-i-preserved c =
-    let a = c.args in
-    omega (arith, place-next a.upper a.ws.now c.loop-i.i c.loop-i-test.true (ne_eqb _ _ c.if-ws-i.false))
 
 pub returns : goal.returns
 returns c =
     let a = c.args in
-    omega (arith, place_end a.upper a.ws.now c.loop-i.i c.loop-i.invariant.0 c.loop-i-test.false)
+    position_from_yields_List (λ w. eqb (upper w) a.number) _ _ _ c.position.ensures.ran (YieldsList-from_slice a.ws.now cc) (λ x b q k. search (rules, tests))
+    ∙ ap (λ (k : ℕ). cond (ltb k (length a.ws.now)) (Some k) None) (position-place a.number a.ws.now)
