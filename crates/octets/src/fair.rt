@@ -21,14 +21,12 @@ pub fn all_fair(ws: &[u64], n: usize) -> bool
     ensures { result ≡ all fair (take n (octets ws.now)) }
 {
     let whole = n / 8;
-    let mut k = 0;
-    while k < whole {
+    for k in 0..whole {
         if !word_fair(ws, k) {
             return false;
         }
-        k += 1;
     }
-    bytes_fair(ws, 8 * k, n - 8 * k)
+    bytes_fair(ws, 8 * whole, n - 8 * whole)
 }
 
 // The bytes of the word at place k may.
@@ -36,23 +34,14 @@ fn word_fair(ws: &[u64], k: usize) -> bool
     requires { k < length ws.now }
     ensures { result ≡ all fair (part (8 * k) 8 (octets ws.now)) }
 {
-    if is_plain(ws[k]) {
-        return true;
-    }
-    bytes_fair(ws, 8 * k, 8)
+    is_plain(ws[k]) || bytes_fair(ws, 8 * k, 8)
 }
 
 // Where this holds, every byte of the word is 32 to 126.
 fn is_plain(w: u64) -> bool
     ensures { result ≡ true → all fair (bytes_of w) ≡ true }
 {
-    if w & TOPS != 0 {
-        return false;
-    }
-    if (w + ONES) & TOPS != 0 {
-        return false;
-    }
-    (w + LIFTS) & TOPS == TOPS
+    w & TOPS == 0 && (w + ONES) & TOPS == 0 && (w + LIFTS) & TOPS == TOPS
 }
 
 // The n bytes from place `from` on may.
@@ -60,12 +49,10 @@ fn bytes_fair(ws: &[u64], from: usize, n: usize) -> bool
     requires { Has from n ws.now }
     ensures { result ≡ all fair (part from n (octets ws.now)) }
 {
-    let mut i = 0;
-    while i < n {
+    for i in 0..n {
         if !is_fair(byte_at(ws, from + i)) {
             return false;
         }
-        i += 1;
     }
     true
 }
@@ -74,8 +61,5 @@ fn bytes_fair(ws: &[u64], from: usize, n: usize) -> bool
 fn is_fair(b: u8) -> bool
     ensures { result ≡ fair b }
 {
-    if b < 32 {
-        return b == 9;
-    }
-    b <= 126
+    (32..=126).contains(&b) || b == b'\t'
 }

@@ -17,7 +17,7 @@ pub fn set_byte(ws: &mut [u64], i: usize, b: u8)
     }
 }
 
-// The n bytes from place `from` on are moved down to place `to`.
+// The n bytes from place `from` on are moved down to place `to`. A `while`, for a turn moves eight bytes or one.
 pub fn shift_bytes(ws: &mut [u64], to: usize, from: usize, n: usize)
     requires { Lowers to from n ws.old }
     ensures { ws.new ≡ inked to (part from n (octets ws.old)) ws.old }
@@ -33,12 +33,10 @@ fn move_some(ws: &mut [u64], to: usize, from: usize, n: usize) -> usize
     requires { Lowers to from n ws.old × (1 ≤ n) }
     ensures { MovesSome to from n ws.old result ws.new }
 {
-    if to % 8 == 0 {
-        if 8 <= n {
-            let w = eight_at(ws, from);
-            ws[to / 8] = w;
-            return 8;
-        }
+    if to % 8 == 0 && 8 <= n {
+        let w = eight_at(ws, from);
+        ws[to / 8] = w;
+        return 8;
     }
     let b = byte_at(ws, from);
     set_byte(ws, to, b);

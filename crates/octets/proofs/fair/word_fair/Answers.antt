@@ -7,4 +7,4 @@ use Rattle.octets.proofs.fair.word_fair.Goals as goal
 
 pub returns-then-is_plain : goal.returns-then-is_plain
 returns-then-is_plain c =
-    sym (ap (all fair) (word-part c.args.ws.now c.args.k c.requires) ∙ c.is_plain.ensures c.if-is_plain.true)
+    c.if-is_plain.true ∙ sym (ap (all fair) (word-part c.args.ws.now c.args.k c.requires) ∙ c.is_plain.ensures c.if-is_plain.true)
