@@ -20,30 +20,18 @@ const BYTE: u64 = 256;
 pub fn holds_name(ws: &[u64]) -> bool
     ensures { result ≡ holds_name ws.now }
 {
-    if ws.len() == 0 {
-        return false;
-    }
-    if ws[0] == 0 {
-        return false;
-    }
-    all_taper(ws)
+    !ws.is_empty() && ws[0] != 0 && all_taper(ws)
 }
 
 // The words hold name bytes, and zeros after them: from a word on whose last byte is zero, every word is.
 fn all_taper(ws: &[u64]) -> bool
     ensures { result ≡ all (eqb 0) (skip name_byte (octets ws.now)) }
 {
-    let mut i = 0;
-    while i < ws.len() {
-        let w = ws[i];
-        i += 1;
-        if w % BYTE == 0 {
-            if !tapers(filled(w)) {
-                return false;
-            }
-            return all_zero(&ws[i..]);
+    for (i, w) in ws.iter().enumerate() {
+        if *w % BYTE == 0 {
+            return tapers(filled(*w)) && all_zero(&ws[i + 1..]);
         }
-        if !tapers(w) {
+        if !tapers(*w) {
             return false;
         }
     }
@@ -54,13 +42,10 @@ fn all_taper(ws: &[u64]) -> bool
 fn tapers(w: u64) -> bool
     ensures { result ≡ all (eqb 0) (skip name_byte (bytes_of w)) }
 {
-    if is_whole(w) {
-        return true;
-    }
-    bytes_taper(w)
+    is_whole(w) || bytes_taper(w)
 }
 
-// The same, byte by byte: the word is shifted up while a name byte is highest.
+// The same, byte by byte: the word is shifted up while a name byte is highest, and no index is counted.
 fn bytes_taper(w: u64) -> bool
     ensures { result ≡ all (eqb 0) (skip name_byte (bytes_of w)) }
 {

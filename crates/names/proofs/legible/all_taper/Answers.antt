@@ -1,11 +1,10 @@
 -- `all_taper` meets its contract: after a word of name bytes only, what is asked of the rest is what is asked of all.
 -- Assumes nothing.
-use mathlib.Core.Path.{◌≡◌, refl, sym, ap, ◌∙◌}
+use mathlib.Core.Path.{◌≡◌, sym, ap, ◌∙◌}
 use mathlib.Core.Bool.{true, false}
 use mathlib.Core.List.{List, ◌∷◌}
 use Prim.Native.Nat.{ℕ, ◌+◌, ◌-◌, ◌%◌, ◌≤◌, ◌<◌}
 use native.Mathlib.Omega.{arith}
-use borrow.Author.Rules.{rules}
 use lib.ListN.{length, take, drop, get_or}
 use Rattle.words.specs.Halves.{all}
 use Rattle.words.proofs.Steps.{drop-next, drop-end, rest_part}
@@ -14,9 +13,6 @@ use Rattle.words.proofs.Each.{WORD, words_of}
 use Rattle.octets.specs.Octets.{bytes_of, octets}
 use Rattle.names.proofs.Tapering.{zeros, ends, ends_through, ends_last, ends-never, zeros-words}
 use Rattle.names.proofs.legible.all_taper.Goals as goal
-
-pub loop-i-init : goal.loop-i-init
-loop-i-init c = (search rules, refl)
 
 -- what the word at place i tells of the words from there on
 module _ (ws : List ℕ) (i : ℕ) (h : i < length ws) where
@@ -42,26 +38,23 @@ none_left : (ws : List ℕ) (i : ℕ) → i ≤ length ws → length ws ≤ i �
 unfolding octets all
 none_left ws i h k = sym (ap (λ (l : List ℕ). ends (octets l)) (drop-end ws i h k))
 
+pub returns : goal.returns
+returns c = none_left _ _ c.loop-i.auto.i-end c.loop-i-test.false ∙ c.loop-i.invariant
+
+pub returns-then-tapers : goal.returns-then-tapers
+returns-then-tapers c =
+    c.all_zero.ensures
+    ∙ last c.args.ws.now c.loop-i.i c.loop-i-test.true (λ j. omega (arith, c.type_inv.ws j)) (sym c.filled.ensures ∙ sym c.tapers.ensures ∙ c.if-tapers.true) c.if-w-eq0.true
+    ∙ c.loop-i.invariant
+
+pub returns-else-tapers : goal.returns-else-tapers
+returns-else-tapers c =
+    c.if-tapers.false ∙ sym (never _ _ c.loop-i-test.true (sym c.filled.ensures ∙ sym c.tapers.ensures ∙ c.if-tapers.false)) ∙ c.loop-i.invariant
+
 pub returns-then-not-tapers : goal.returns-then-not-tapers
 returns-then-not-tapers c =
-    sym (never _ _ c.loop-i-test.true (sym c.filled.ensures ∙ sym c.tapers.ensures ∙ c.if-not-tapers.true)) ∙ c.loop-i.invariant.1
-
-pub returns-then-w-eq0 : goal.returns-then-w-eq0
-returns-then-w-eq0 c =
-    let l = c.loop-i in
-    let a = c.args in
-    c.all_zero.ensures
-    ∙ last a.ws.now l.i c.loop-i-test.true (λ j. omega (arith, c.shared_slice_known-1.given j))
-    (sym c.filled.ensures ∙ sym c.tapers.ensures ∙ c.if-not-tapers.false) c.if-w-eq0.true
-    ∙ l.invariant.1
-
-pub returns-then-not-tapers-2 : goal.returns-then-not-tapers-2
-returns-then-not-tapers-2 c =
-    sym (never _ _ c.loop-i-test.true (sym c.tapers-in-loop-i.ensures ∙ c.if-not-tapers-2.true)) ∙ c.loop-i.invariant.1
+    sym (never _ _ c.loop-i-test.true (sym c.tapers-in-loop-i.ensures ∙ c.if-not-tapers.true)) ∙ c.loop-i.invariant
 
 pub loop-i-preserved : goal.loop-i-preserved
 loop-i-preserved c =
-    (omega arith, through _ _ c.loop-i-test.true (sym c.tapers-in-loop-i.ensures ∙ c.if-not-tapers-2.false) c.if-w-eq0.false ∙ c.loop-i.invariant.1)
-
-pub returns : goal.returns
-returns c = none_left _ _ c.loop-i.invariant.0 c.loop-i-test.false ∙ c.loop-i.invariant.1
+    through _ _ c.loop-i-test.true (sym c.tapers-in-loop-i.ensures ∙ c.if-not-tapers.false) c.if-w-eq0.false ∙ c.loop-i.invariant
