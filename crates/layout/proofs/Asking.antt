@@ -16,7 +16,7 @@ use Rattle.names.specs.Names.{NAMEWORDS}
 use Rattle.layout.specs.Limits.{STATEMENTS, VALUES, BYTES, TEXTWORDS, WORDS, LONGEST_KEPT, MOST_COUNTED, BYTEWORDS, TEXTS_AT, HEADS_AT, NAMES_AT, VALUES_AT, BYTES_AT}
 use Rattle.layout.specs.Memory.{text_words, head_words, name_words, value_words, open_values, open_bytes, merged}
 use Rattle.layout.specs.Damage.{Counted, sized, all_named, all_fit, total_bytes, orderly, kept_length, bytes_so_far, orderly_open}
-use Rattle.layout.specs.Totals.{under, merged_totals, within, sums, Sizes}
+use Rattle.layout.specs.Totals.{under, merged_totals, within, sums, names_asked, counts_asked, Countable, Sizes}
 use Rattle.layout.specs.declared.front.Totals.{Totals}
 use Rattle.layout.proofs.Areas.{length_part, length-under, text_count-under, statement_count-under, value_count-under, byte_count-under, texts-under, heads-under, names-under, values-under, bytes-under}
 use Rattle.layout.proofs.Sound.{Limited, limited-of, orderly-in-order, from-labels}
@@ -91,23 +91,26 @@ module _ {most : ℕ} {t : Totals} {m texts heads names values : List ℕ} (S : 
   L : Limited most t
   L = limited-of most t S.limits
 
-  pub few-texts : length texts ≤ HALF
+  few-texts : length texts ≤ HALF
   few-texts = omega (arith, ap length S.texts=, length_part TEXTS_AT t.texts m (omega (arith, L.texts, S.sizes.words, S.sizes.few)), L.texts, S.sizes.few)
 
   length-heads : length heads ≡ t.statements
   length-heads = ap length S.heads= ∙ length_part HEADS_AT t.statements m (omega (arith, L.statements, S.sizes.words))
 
-  pub few-heads : length heads ≤ HALF
+  few-heads : length heads ≤ HALF
   few-heads = omega (arith, length-heads, L.statements)
 
   pub enough-names : NAMEWORDS * length heads ≤ length names
   enough-names = omega (arith, length-heads, ap length S.names=, length_part NAMES_AT (NAMEWORDS * t.statements) m (omega (arith, L.statements, S.sizes.words)))
 
-  pub counted : sums heads t.values ≡ true → Counted heads values
-  counted e =
-      let l : length values ≡ t.values = ap length S.values= ∙ length_part VALUES_AT t.values m (omega (arith, L.values, S.sizes.words)) in
-      let f : sum heads ≡ t.values = eqb-true _ _ (both (all (λ h. leb 1 (lower h)) heads) (eqb (sum heads) t.values) e).1 in
-      record { within = omega arith; few = omega (arith, L.values) }
+  pub countable : Countable texts heads values t
+  countable =
+      record {
+        texts = few-texts;
+        heads = few-heads;
+        values = ap length S.values= ∙ length_part VALUES_AT t.values m (omega (arith, L.values, S.sizes.words));
+        few = omega (arith, L.values);
+      }
 
   pub all_asked : orderly most (under t m) ≡ ask-labels t m texts heads names values
   all_asked =
@@ -120,6 +123,29 @@ module _ {most : ℕ} {t : Totals} {m texts heads names values : List ℕ} (S : 
       past-limits most t m n S.limits
       ∙ (λ i. distinct (a i) && (all_named (h i) (x i) && (all (λ w. leb (upper w) 3) (h i) && (sums (h i) (value_count-under t m n i)
       && (eqb (sum (a i)) (statement_count-under t m n i) && (all_fit (h i) (v i) && (eqb (total_bytes (h i) (v i)) (byte_count-under t m n i) && all fair (b i))))))))
+
+-- values that are counted
+pub counted : {ws hs vs : List ℕ} {t : Totals} → Countable ws hs vs t → sums hs t.values ≡ true → Counted hs vs
+counted {hs = hs} {t = t} C e =
+    let f : sum hs ≡ t.values = eqb-true _ _ (both (all (λ h. leb 1 (lower h)) hs) (eqb (sum hs) t.values) e).1 in
+    record { within = omega (arith, C.values); few = omega (arith, C.values, C.few) }
+
+-- the same in the order of the code: labels and names, then the counts, then the bytes
+grouped : (a b c d e f g h : Bool) → a && (b && (c && (d && (e && (f && (g && h)))))) ≡ (a && b && c) && ((d && (e && f && g)) && h)
+grouped false b c d e f g h = refl
+grouped true false c d e f g h = refl
+grouped true true false d e f g h = refl
+grouped true true true false e f g h = refl
+grouped true true true true false f g h = refl
+grouped true true true true true false g h = refl
+grouped true true true true true true g h = refl
+
+module _ {most : ℕ} {t : Totals} {m texts heads names values : List ℕ} (S : Slices most t m texts heads names values) where
+  pub in_code : orderly most (under t m) ≡ names_asked texts heads names && (counts_asked texts heads values t && ask-bytes t m texts heads names values)
+  in_code =
+      all_asked S
+      ∙ grouped (distinct texts) (all_named heads names) (all (λ h. leb (upper h) 3) heads) (sums heads t.values) (eqb (sum texts) t.statements) (all_fit heads values) (eqb (total_bytes heads values) t.bytes)
+      (ask-bytes t m texts heads names values)
 
 -- ---- the open text
 

@@ -17,19 +17,22 @@ use Rattle.layout.specs.Damage.{fits, all_fit, total_bytes}
 
 -- ---- one head
 
-module _ (hs vs : List ℕ) (i at : ℕ) (h : i < length hs) where
+module _ (hs vs : List ℕ) (i at n : ℕ) (h : i < length hs) (e : n ≡ lower (get_or hs i 0)) where
   abbrev head : ℕ
   head = get_or hs i 0
 
   abbrev end : ℕ
-  end = at + lower head
+  end = at + n
 
   -- its values, as a slice up to their end is read
   abbrev here : List ℕ
   here = take (end - at) (drop at vs)
 
   counted-here : here ≡ take (lower head) (drop at vs)
-  counted-here = let e : end - at ≡ lower head = omega arith in ap (λ (k : ℕ). take k (drop at vs)) e
+  counted-here = let q : end - at ≡ lower head = omega arith in ap (λ (k : ℕ). take k (drop at vs)) q
+
+  behind : drop (lower head) (drop at vs) ≡ drop end vs
+  behind = drop-drop (lower head) at vs ∙ ap (λ (k : ℕ). drop (at + k) vs) (sym e)
 
   pub few-here : {n : ℕ} → length vs ≤ n → length here ≤ n
   few-here k = omega (arith, length-take (end - at) (drop at vs), length-drop at vs)
@@ -41,19 +44,19 @@ module _ (hs vs : List ℕ) (i at : ℕ) (h : i < length hs) where
   unfolding total_bytes
   total-next =
       ap (λ (l : List ℕ). total_bytes l (drop at vs)) (drop-next hs i 0 h)
-      ∙ ap₂ (λ (x y : List ℕ). bytes_taken (upper head / 2) x + total_bytes (drop (i + 1) hs) y) (sym counted-here) (drop-drop (lower head) at vs)
+      ∙ ap₂ (λ (x y : List ℕ). bytes_taken (upper head / 2) x + total_bytes (drop (i + 1) hs) y) (sym counted-here) behind
 
   fit-here : (t : Bool) → all (fits (upper head / 2)) here ≡ t → all_fit (drop i hs) (drop at vs) ≡ (if t then all_fit (drop (i + 1) hs) (drop end vs) else false)
   unfolding all_fit
-  fit-here t e =
+  fit-here t f =
       ap (λ (l : List ℕ). all_fit l (drop at vs)) (drop-next hs i 0 h)
-      ∙ ap₂ (λ (b : Bool) (y : List ℕ). if b then all_fit (drop (i + 1) hs) y else false) (sym (ap (all (fits (upper head / 2))) counted-here) ∙ e) (drop-drop (lower head) at vs)
+      ∙ ap₂ (λ (b : Bool) (y : List ℕ). if b then all_fit (drop (i + 1) hs) y else false) (sym (ap (all (fits (upper head / 2))) counted-here) ∙ f) behind
 
   pub fit_next : all (fits (upper head / 2)) here ≡ true → all_fit (drop (i + 1) hs) (drop end vs) ≡ all_fit (drop i hs) (drop at vs)
-  fit_next e = sym (fit-here true e)
+  fit_next f = sym (fit-here true f)
 
   pub fit-stop : all (fits (upper head / 2)) here ≡ false → false ≡ all_fit (drop i hs) (drop at vs)
-  fit-stop e = sym (fit-here false e)
+  fit-stop f = sym (fit-here false f)
 
 -- ---- no head
 

@@ -208,6 +208,10 @@ held_of m e = both (orderly TEXTS m) (if opens m then orderly_open m else true) 
 pub sound-of : (m : List ℕ) → sound m ≡ true → Sound m
 sound-of m e = orderly-of TEXTS m (omega arith) (held_of m e).0
 
+-- what reading the areas requires
+pub framed : (m : List ℕ) → sound m ≡ true → Framed m
+framed m e = (sound-of m e).sizes
+
 pub sound-open : (m : List ℕ) → sound m ≡ true → opens m ≡ true → SoundOpen m
 sound-open m e o =
     let x = orderly TEXTWORDS (merged m) in

@@ -1,4 +1,5 @@
 // The words in use of each area, and the words of the strings' bytes.
+// Each is `part_of` under its own name, for a place and a count in its stead would not say which area it is.
 ghost use Rattle.std.specs.Prelude.{◌≡◌};
 ghost use Rattle.words.specs.Over.{part};
 ghost use Rattle.layout.specs.Limits.{BYTES_AT, BYTEWORDS};

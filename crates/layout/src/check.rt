@@ -1,25 +1,27 @@
 // "A pool is damaged exactly when one of these fails": the conditions in document 01's order, of what is held; and of what is held with the open
 // text's statements and values "put after the held ones".
-ghost use Rattle.std.specs.Prelude.{◌≡◌, ◌*◌, ◌≤◌, leb, length};
+ghost use Rattle.std.specs.Prelude.{◌≡◌, ◌*◌, ◌/◌, ◌≤◌, leb, length};
 ghost use Rattle.value.specs.Strings.{STRING};
 ghost use Rattle.words.specs.Halves.{HALF, all, upper, lower};
 ghost use Rattle.names.specs.Names.{NAMEWORDS};
 ghost use Rattle.layout.specs.Limits.{TEXTS_AT};
 ghost use Rattle.layout.specs.Memory.{opens};
 ghost use Rattle.layout.specs.Damage.{Counted, orderly, orderly_open, sound, small, fits, all_named, all_fit};
-ghost use Rattle.layout.specs.Totals.{under, within, sums, Sizes, Behind};
+ghost use Rattle.layout.specs.Totals.{under, within, sums, names_asked, counts_asked, Countable, Sizes, Behind};
 
 use crate::front::{Totals, totals_merged, totals_of};
+use crate::head::{holds_numbers, value_count};
 use crate::limits::{
-    BYTES, BYTES_AT, BYTES_SO_FAR, BYTEWORDS, HALF, HEADS_AT, KEPT_LENGTH, LONGEST_KEPT,
-    MOST_COUNTED, NAMES_AT, OPEN_AT, OPEN_BYTES, OPEN_VALUES, STATEMENTS, TEXTS, TEXTS_AT, VALUES,
-    VALUES_AT, WORDS,
+    BYTES, BYTES_AT, BYTES_SO_FAR, BYTEWORDS, HEADS_AT, KEPT_LENGTH, LONGEST_KEPT, MOST_COUNTED,
+    NAMES_AT, OPEN_AT, OPEN_BYTES, OPEN_VALUES, STATEMENTS, TEXTS, TEXTS_AT, VALUES, VALUES_AT,
+    WORDS,
 };
 use crate::taken::sum_bytes;
 use names::legible::holds_name;
 use names::pack::NAMEWORDS;
 use octets::fair::all_fair;
 use value::strings::STRING;
+use words::half::{lower, upper};
 use words::read::part_of;
 use words::scan::{all_distinct, sum_lower};
 
@@ -88,44 +90,42 @@ fn is_orderly(m: &[u64], most: u64, totals: Totals) -> bool
     let heads = part_of(m, HEADS_AT, totals.statements as usize);
     let names = part_of(m, NAMES_AT, NAMEWORDS * (totals.statements as usize));
     let values = part_of(m, VALUES_AT, totals.values as usize);
-    if !all_distinct(texts) {
+    if !are_named(texts, heads, names) {
         return false;
     }
-    if !all_named(heads, names) {
-        return false;
-    }
-    if !all_operated(heads) {
-        return false;
-    }
+    are_counted(texts, heads, values, totals)
+        && all_fair(part_of(m, BYTES_AT, BYTEWORDS), totals.bytes as usize)
+}
+
+// "labels distinct", "names and operators legal"
+fn are_named(texts: &[u64], heads: &[u64], names: &[u64]) -> bool
+    requires { NAMEWORDS * length heads.now ≤ length names.now }
+    ensures { result ≡ names_asked texts.now heads.now names.now }
+{
+    all_distinct(texts) && all_named(heads, names) && all_operated(heads)
+}
+
+// The counts and sums, and that every value fits its statement's kind.
+fn are_counted(texts: &[u64], heads: &[u64], values: &[u64], totals: Totals) -> bool
+    requires { Countable texts.now heads.now values.now totals }
+    ensures { result ≡ counts_asked texts.now heads.now values.now totals }
+{
     if !is_summed(heads, totals.values) {
         return false;
     }
-    if sum_lower(texts) != totals.statements {
-        return false;
-    }
-    if !all_fit(heads, values) {
-        return false;
-    }
-    if sum_bytes(heads, values) != totals.bytes {
-        return false;
-    }
-    all_fair(part_of(m, BYTES_AT, BYTEWORDS), totals.bytes as usize)
+    sum_lower(texts) == totals.statements
+        && all_fit(heads, values)
+        && sum_bytes(heads, values) == totals.bytes
 }
 
 // "totals within the limits"
 fn is_limited(most: u64, totals: Totals) -> bool
     ensures { result ≡ within most totals }
 {
-    if most < totals.texts {
-        return false;
-    }
-    if STATEMENTS < totals.statements {
-        return false;
-    }
-    if VALUES < totals.values {
-        return false;
-    }
-    totals.bytes <= BYTES
+    totals.texts <= most
+        && totals.statements <= STATEMENTS
+        && totals.values <= VALUES
+        && totals.bytes <= BYTES
 }
 
 // "every statement's count at least 1 and the counts adding up to the total"
@@ -133,10 +133,7 @@ fn is_summed(heads: &[u64], total: u64) -> bool
     requires { length heads.now ≤ HALF }
     ensures { result ≡ sums heads.now total }
 {
-    if !all_filled(heads) {
-        return false;
-    }
-    sum_lower(heads) == total
+    all_filled(heads) && sum_lower(heads) == total
 }
 
 // Every statement's four words hold a legal name.
@@ -144,12 +141,9 @@ fn all_named(heads: &[u64], names: &[u64]) -> bool
     requires { NAMEWORDS * length heads.now ≤ length names.now }
     ensures { result ≡ all_named heads.now names.now }
 {
-    let mut i = 0;
-    while i < heads.len() {
+    for i in 0..heads.len() {
         let at = NAMEWORDS * i;
-        i += 1;
-        let end = NAMEWORDS * i;
-        if !holds_name(&names[at..end]) {
+        if !holds_name(&names[at..at + NAMEWORDS]) {
             return false;
         }
     }
@@ -160,28 +154,14 @@ fn all_named(heads: &[u64], names: &[u64]) -> bool
 fn all_operated(heads: &[u64]) -> bool
     ensures { result ≡ all (λ h. leb (upper h) 3) heads.now }
 {
-    let mut i = 0;
-    while i < heads.len() {
-        if 3 < heads[i] / HALF {
-            return false;
-        }
-        i += 1;
-    }
-    true
+    heads.iter().all(|h| upper(*h) <= 3)
 }
 
 // Every statement has a value.
 fn all_filled(heads: &[u64]) -> bool
     ensures { result ≡ all (λ h. leb 1 (lower h)) heads.now }
 {
-    let mut i = 0;
-    while i < heads.len() {
-        if heads[i] % HALF < 1 {
-            return false;
-        }
-        i += 1;
-    }
-    true
+    heads.iter().all(|h| 1 <= lower(*h))
 }
 
 // Every statement's values fit its kind.
@@ -190,24 +170,21 @@ fn all_fit(heads: &[u64], values: &[u64]) -> bool
     ensures { result ≡ all_fit heads.now values.now }
 {
     let mut at = 0;
-    let mut i = 0;
-    while i < heads.len() {
-        let head = heads[i];
-        let end = at + (head % HALF) as usize;
-        if !values_fit(head / HALF / 2, &values[at..end]) {
+    for head in heads {
+        let end = at + value_count(*head);
+        if !values_fit(*head, &values[at..end]) {
             return false;
         }
         at = end;
-        i += 1;
     }
     true
 }
 
-// The values fit the kind: numbers are small, and strings short.
-fn values_fit(kind: u64, values: &[u64]) -> bool
-    ensures { result ≡ all (fits kind) values.now }
+// The values fit the head's kind: numbers are small, and strings short.
+fn values_fit(head: u64, values: &[u64]) -> bool
+    ensures { result ≡ all (fits (upper head / 2)) values.now }
 {
-    if kind == 0 {
+    if holds_numbers(head) {
         return all_small(values);
     }
     all_short(values)
@@ -217,26 +194,12 @@ fn values_fit(kind: u64, values: &[u64]) -> bool
 fn all_small(values: &[u64]) -> bool
     ensures { result ≡ all small values.now }
 {
-    let mut i = 0;
-    while i < values.len() {
-        if LARGE <= values[i] / FRACTION % FIELD {
-            return false;
-        }
-        i += 1;
-    }
-    true
+    values.iter().all(|w| *w / FRACTION % FIELD < LARGE)
 }
 
 // Every length is at most that of the longest string.
 fn all_short(values: &[u64]) -> bool
     ensures { result ≡ all (λ w. leb w STRING) values.now }
 {
-    let mut i = 0;
-    while i < values.len() {
-        if (STRING as u64) < values[i] {
-            return false;
-        }
-        i += 1;
-    }
-    true
+    values.iter().all(|w| *w <= STRING as u64)
 }

@@ -6,9 +6,10 @@ ghost use Rattle.layout.specs.Memory.{NONE_OPEN};
 ghost use Rattle.layout.specs.Totals.{own_totals, merged_totals, Addable};
 
 use crate::limits::{
-    BYTE_COUNT, HALF, OPEN_AT, OPEN_BYTES, OPEN_VALUES, STATEMENT_COUNT, TEXT_COUNT, TEXTS_AT,
+    BYTE_COUNT, OPEN_AT, OPEN_BYTES, OPEN_VALUES, STATEMENT_COUNT, TEXT_COUNT, TEXTS_AT,
     VALUE_COUNT,
 };
+use words::half::lower;
 use words::write::store;
 
 // The numbers of texts, statements, values and bytes of strings.
@@ -42,7 +43,7 @@ pub fn totals_merged(m: &[u64]) -> Totals
     let word = m[TEXTS_AT + (texts as usize)];
     Totals {
         texts: texts + 1,
-        statements: m[STATEMENT_COUNT] + word % HALF,
+        statements: m[STATEMENT_COUNT] + lower(word),
         values: m[VALUE_COUNT] + m[OPEN_VALUES],
         bytes: m[BYTE_COUNT] + m[OPEN_BYTES],
     }

@@ -4,5 +4,7 @@
 pub mod area;
 pub mod check;
 pub mod front;
+pub mod head;
 pub mod limits;
 pub mod taken;
+pub mod undamaged;

@@ -49,7 +49,7 @@ pub const BYTES_AT: usize = 5683;
 pub const WORDS: usize = 6707;
 
 // A word's upper number stands above 2^32.
-pub const HALF: u64 = 4294967296;
+pub use words::half::HALF;
 
 // "whose kept line is over 133 bytes or whose byte count is over 4,194,305"
 pub const LONGEST_KEPT: u64 = 133;

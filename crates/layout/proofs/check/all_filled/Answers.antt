@@ -1,20 +1,14 @@
--- `all_filled` meets its contract: the statements left have values exactly when all have, since each one passed has. Assumes nothing.
-use mathlib.Core.Path.{refl, ◌∙◌}
-use native.Mathlib.Omega.{arith}
-use borrow.Author.Rules.{rules}
-use borrow.Author.Tests.{lt-leb, le-leb}
-use Rattle.words.proofs.Steps.{all-next, all-stop, all_end}
-use Rattle.layout.proofs.check.all_filled.Invariants.{filled}
+-- `all_filled` meets its contract: the chain asks each head for its number of values. Assumes nothing.
+use mathlib.Core.Path.{◌∙◌}
+use Rattle.std.proofs.Common.{rules, tests}
+use Rattle.std.proofs.lemmas.Iterator.{YieldsList-from_slice}
+use Rattle.std.proofs.lemmas.Iterator.Search.{all_from_yields_List}
+use lib.Dec.{leb}
+use Rattle.words.specs.Halves.{lower}
+use Rattle.words.proofs.Chains.{list_all-all}
 use Rattle.layout.proofs.check.all_filled.Goals as goal
 
-pub loop-i-init : goal.loop-i-init
-loop-i-init c = (search rules, refl)
-
-pub returns-then-heads-i-lt1 : goal.returns-then-heads-i-lt1
-returns-then-heads-i-lt1 c = all-stop filled _ _ c.loop-i-test.true (lt-leb _ _ c.if-heads-i-lt1.true) ∙ c.loop-i.invariant.1
-
-pub loop-i-preserved : goal.loop-i-preserved
-loop-i-preserved c = (omega arith, all-next filled _ _ c.loop-i-test.true (le-leb _ _ c.if-heads-i-lt1.false) ∙ c.loop-i.invariant.1)
-
 pub returns : goal.returns
-returns c = all_end filled _ _ c.loop-i.invariant.0 c.loop-i-test.false ∙ c.loop-i.invariant.1
+returns c =
+    all_from_yields_List (λ h. leb 1 (lower h)) _ _ _ c.all.ensures.ran (YieldsList-from_slice c.args.heads.now cc) (λ x b q k. search (rules, tests))
+    ∙ list_all-all (λ h. leb 1 (lower h)) c.args.heads.now

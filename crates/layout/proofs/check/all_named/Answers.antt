@@ -1,10 +1,9 @@
 -- `all_named` meets its contract: the names left are legal exactly when all are, since each one passed is. Assumes nothing.
-use mathlib.Core.Path.{◌≡◌, refl, sym, ap, ◌∙◌}
+use mathlib.Core.Path.{◌≡◌, sym, ap, ◌∙◌}
 use mathlib.Core.Bool.{Bool, true, false}
 use mathlib.Core.List.{List}
 use Prim.Native.Nat.{ℕ, ◌+◌, ◌*◌, ◌-◌, ◌≤◌, ◌<◌}
 use native.Mathlib.Omega.{arith}
-use borrow.Author.Rules.{rules}
 use lib.ListN.{length, take, drop}
 use lib.Seq.{drop-drop}
 use Rattle.words.proofs.Steps.{drop-next, drop-end}
@@ -12,17 +11,14 @@ use Rattle.names.specs.Names.{NAMEWORDS, holds_name}
 use Rattle.layout.specs.Damage.{all_named}
 use Rattle.layout.proofs.check.all_named.Goals as goal
 
-pub loop-i-init : goal.loop-i-init
-loop-i-init c = (search rules, refl)
-
 -- the four words from place 4 · i on, and what is left after them
-module _ (hs ns : List ℕ) (i : ℕ) (h : i < length hs) (t : Bool) (e : t ≡ holds_name (take (NAMEWORDS * (i + 1) - NAMEWORDS * i) (drop (NAMEWORDS * i) ns))) where
+module _ (hs ns : List ℕ) (i : ℕ) (h : i < length hs) (t : Bool) (e : t ≡ holds_name (take (NAMEWORDS * i + NAMEWORDS - NAMEWORDS * i) (drop (NAMEWORDS * i) ns))) where
   name : List ℕ
   name = take NAMEWORDS (drop (NAMEWORDS * i) ns)
 
   asked : holds_name name ≡ t
   unfolding name
-  asked = let q : NAMEWORDS * (i + 1) - NAMEWORDS * i ≡ NAMEWORDS = omega arith in sym (e ∙ ap (λ (k : ℕ). holds_name (take k (drop (NAMEWORDS * i) ns))) q)
+  asked = let q : NAMEWORDS * i + NAMEWORDS - NAMEWORDS * i ≡ NAMEWORDS = omega arith in sym (e ∙ ap (λ (k : ℕ). holds_name (take k (drop (NAMEWORDS * i) ns))) q)
 
   stop : t ≡ false → all_named (drop i hs) (drop (NAMEWORDS * i) ns) ≡ false
   unfolding all_named name
@@ -43,15 +39,15 @@ pub returns-then-not-holds_name : goal.returns-then-not-holds_name
 returns-then-not-holds_name c =
     let l = c.loop-i in
     let a = c.args in
-    sym (stop a.heads.now a.names.now l.i c.loop-i-test.true _ c.holds_name.ensures c.if-not-holds_name.true) ∙ l.invariant.1
+    sym (stop a.heads.now a.names.now l.i c.loop-i-test.true _ c.holds_name.ensures c.if-not-holds_name.true) ∙ l.invariant
 
 pub loop-i-preserved : goal.loop-i-preserved
 loop-i-preserved c =
     let l = c.loop-i in
     let a = c.args in
-    (omega arith, next a.heads.now a.names.now l.i c.loop-i-test.true _ c.holds_name.ensures c.if-not-holds_name.false ∙ l.invariant.1)
+    next a.heads.now a.names.now l.i c.loop-i-test.true _ c.holds_name.ensures c.if-not-holds_name.false ∙ l.invariant
 
 pub returns : goal.returns
 returns c =
     let a = c.args in
-    none_left a.heads.now a.names.now c.loop-i.i c.loop-i.invariant.0 c.loop-i-test.false ∙ c.loop-i.invariant.1
+    none_left a.heads.now a.names.now c.loop-i.i c.loop-i.auto.i-end c.loop-i-test.false ∙ c.loop-i.invariant

@@ -1,20 +1,14 @@
--- `all_operated` meets its contract: the operators left are legal exactly when all are, since each one passed is. Assumes nothing.
-use mathlib.Core.Path.{refl, ◌∙◌}
-use native.Mathlib.Omega.{arith}
-use borrow.Author.Rules.{rules}
-use borrow.Author.Tests.{lt-leb, le-leb}
-use Rattle.words.proofs.Steps.{all-next, all-stop, all_end}
-use Rattle.layout.proofs.check.all_operated.Invariants.{legal_operator}
+-- `all_operated` meets its contract: the chain asks each head for its upper number. Assumes nothing.
+use mathlib.Core.Path.{◌∙◌}
+use Rattle.std.proofs.Common.{rules, tests}
+use Rattle.std.proofs.lemmas.Iterator.{YieldsList-from_slice}
+use Rattle.std.proofs.lemmas.Iterator.Search.{all_from_yields_List}
+use lib.Dec.{leb}
+use Rattle.words.specs.Halves.{upper}
+use Rattle.words.proofs.Chains.{list_all-all}
 use Rattle.layout.proofs.check.all_operated.Goals as goal
 
-pub loop-i-init : goal.loop-i-init
-loop-i-init c = (search rules, refl)
-
-pub returns-then-heads-i-gt3 : goal.returns-then-heads-i-gt3
-returns-then-heads-i-gt3 c = all-stop legal_operator _ _ c.loop-i-test.true (lt-leb _ _ c.if-heads-i-gt3.true) ∙ c.loop-i.invariant.1
-
-pub loop-i-preserved : goal.loop-i-preserved
-loop-i-preserved c = (omega arith, all-next legal_operator _ _ c.loop-i-test.true (le-leb _ _ c.if-heads-i-gt3.false) ∙ c.loop-i.invariant.1)
-
 pub returns : goal.returns
-returns c = all_end legal_operator _ _ c.loop-i.invariant.0 c.loop-i-test.false ∙ c.loop-i.invariant.1
+returns c =
+    all_from_yields_List (λ h. leb (upper h) 3) _ _ _ c.all.ensures.ran (YieldsList-from_slice c.args.heads.now cc) (λ x b q k. search (rules, tests))
+    ∙ list_all-all (λ h. leb (upper h) 3) c.args.heads.now

@@ -1,20 +1,14 @@
--- `all_short` meets its contract: the lengths left are short exactly when all are, since each one passed is. Assumes nothing.
-use mathlib.Core.Path.{refl, ◌∙◌}
-use native.Mathlib.Omega.{arith}
-use borrow.Author.Rules.{rules}
-use borrow.Author.Tests.{lt-leb, le-leb}
-use Rattle.words.proofs.Steps.{all-next, all-stop, all_end}
-use Rattle.layout.proofs.check.all_short.Invariants.{short}
+-- `all_short` meets its contract: the chain asks each length. Assumes nothing.
+use mathlib.Core.Path.{◌∙◌}
+use Rattle.std.proofs.Common.{rules, tests}
+use Rattle.std.proofs.lemmas.Iterator.{YieldsList-from_slice}
+use Rattle.std.proofs.lemmas.Iterator.Search.{all_from_yields_List}
+use lib.Dec.{leb}
+use Rattle.value.specs.Strings.{STRING}
+use Rattle.words.proofs.Chains.{list_all-all}
 use Rattle.layout.proofs.check.all_short.Goals as goal
 
-pub loop-i-init : goal.loop-i-init
-loop-i-init c = (search rules, refl)
-
-pub returns-then-values-i : goal.returns-then-values-i
-returns-then-values-i c = all-stop short _ _ c.loop-i-test.true (lt-leb _ _ c.if-values-i.true) ∙ c.loop-i.invariant.1
-
-pub loop-i-preserved : goal.loop-i-preserved
-loop-i-preserved c = (omega arith, all-next short _ _ c.loop-i-test.true (le-leb _ _ c.if-values-i.false) ∙ c.loop-i.invariant.1)
-
 pub returns : goal.returns
-returns c = all_end short _ _ c.loop-i.invariant.0 c.loop-i-test.false ∙ c.loop-i.invariant.1
+returns c =
+    all_from_yields_List (λ w. leb w STRING) _ _ _ c.all.ensures.ran (YieldsList-from_slice c.args.values.now cc) (λ x b q k. search (rules, tests))
+    ∙ list_all-all (λ w. leb w STRING) c.args.values.now
