@@ -1,5 +1,5 @@
 -- A bookmark as the code has it is the open text that its words say: the kept line is copied to the start of an array. Assumes nothing.
-use Prim.Native.Nat.{ℕ, ◌+◌, ◌%◌}
+use Prim.Native.Nat.{ℕ, ◌+◌, ◌%◌, ◌≤◌}
 use native.Mathlib.Omega.{arith}
 use mathlib.Core.Path.{◌≡◌, refl, sym, ap, ◌∙◌}
 use mathlib.Core.List.{List, [], ◌∷◌}
@@ -22,8 +22,8 @@ use Rattle.bookmark.specs.Marked.{open_of, Readable, Reads, LineReadable, ReadsL
 use Rattle.bookmark.proofs.Spelled.{numbers-spelled, length-numbers}
 
 pub reads-line : (ws : List ℕ) (used : ℕ) (bytes : List ℕ) → LineReadable ws used → bytes ≡ over 0 (part 0 used (octets ws)) (replicate ROOM 0)
-    → ReadsLine ws used (record { bytes = bytes; used = used })
-reads-line ws used bytes h e =
+    → (w : used ≤ ROOM) → ReadsLine ws used (record { bytes = bytes; used = used; within = w })
+reads-line ws used bytes h e w =
     let x = take used (octets ws) in
     let l : length x ≡ used = length-take-le used (octets ws) (omega (arith, h.kept, h.words, length-octets ws)) in
     let p : take (length x) (over 0 x (replicate ROOM 0)) ≡ x = part-over 0 x (replicate ROOM 0) (omega (arith, h.kept)) in
@@ -52,7 +52,6 @@ reads ws statements h s e k l =
         pending = eqb (get_or ws 11 0 % 2) 1;
         bytes = get_or ws 12 0;
       };
-      room = omega (arith, h.kept, l.as_long);
       long = l.long;
     }
 

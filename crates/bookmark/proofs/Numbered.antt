@@ -36,14 +36,14 @@ fault-back F.OutsideClass = refl
 abbrev pub InLine : Standing → Type 0
 InLine (S.Storing r) = Unit {0}
 InLine (S.Overflowed r) = Unit {0}
-InLine (S.Faulted q line place) = (line ≤ MOST + 1) × (place ≤ LONGEST_LINE)
+InLine (S.Faulted f) = (f.line ≤ MOST + 1) × (f.place ≤ LONGEST_LINE)
 
 pub standing-back : (s : Standing) → InLine s
     → standing_of (get_or (standing_words s) 0 0) (get_or (standing_words s) 1 0) (get_or (standing_words s) 2 0) (get_or (standing_words s) 3 0) (get_or (standing_words s) 4 0) ≡ s
 unfolding standing_words standing_of
 standing-back (S.Storing r) h = ap S.Storing (reader-back r)
 standing-back (S.Overflowed r) h = ap S.Overflowed (reader-back r)
-standing-back (S.Faulted q line place) h =
-    let l : line % COUNTS ≡ line = omega (arith, h.0) in
-    let p : place % PLACES ≡ place = omega (arith, h.1) in
-    λ i. S.Faulted (fault-back q i) (l i) (p i)
+standing-back (S.Faulted f) h =
+    let l : f.line % COUNTS ≡ f.line = omega (arith, h.0) in
+    let p : f.place % PLACES ≡ f.place = omega (arith, h.1) in
+    λ i. S.Faulted (record { fault = fault-back f.fault i; line = l i; place = p i })

@@ -23,7 +23,7 @@ five : (s : Standing) (xs : List ℕ) → standing_words s ++ xs
 unfolding standing_words
 five (S.Storing r) xs = refl
 five (S.Overflowed r) xs = refl
-five (S.Faulted q line place) xs = refl
+five (S.Faulted f) xs = refl
 
 module _ (o : Open Entered) where
   pub numbers-spelled : number_words o ≡ spelled o (standing_words o.progress.standing)

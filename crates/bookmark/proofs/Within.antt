@@ -42,7 +42,7 @@ module _ (way reader fault line place : ℕ) where
   standing-within = by (eqb (way % 3) STORING) (eqb (way % 3) OVERFLOWED)
     where
       by : (s o : Bool)
-          → InLine (if s then S.Storing (reader_of reader) else (if o then S.Overflowed (reader_of reader) else S.Faulted (fault_of fault) (line % COUNTS) (place % PLACES)))
+          → InLine (if s then S.Storing (reader_of reader) else (if o then S.Overflowed (reader_of reader) else S.Faulted (record { fault = fault_of fault; line = line % COUNTS; place = place % PLACES })))
       by true o = tt
       by false true = tt
       by false false = (omega arith, omega arith)
@@ -86,8 +86,8 @@ standing-below : (s : Standing) → InLine s → Words (standing_words s)
 unfolding standing_words
 standing-below (S.Storing r) h = (lit< tt, (reader-below r, (lit< tt, (lit< tt, (lit< tt, tt)))))
 standing-below (S.Overflowed r) h = (lit< tt, (reader-below r, (lit< tt, (lit< tt, (lit< tt, tt)))))
-standing-below (S.Faulted q line place) h =
-    (lit< tt, (lit< tt, (fault-below q, (omega (arith, h.0), (omega (arith, h.1), tt)))))
+standing-below (S.Faulted f) h =
+    (lit< tt, (lit< tt, (fault-below f.fault, (omega (arith, h.0), (omega (arith, h.1), tt)))))
 
 pub words-below : (o : Open Entered) → Within o → o.progress.values < WORD → o.progress.bytes < WORD → Words (open_words o)
 unfolding open_words number_words

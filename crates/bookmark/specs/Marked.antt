@@ -28,7 +28,6 @@ pub record Readable (ws : List ℕ) : Type 0 where
 
 pub record Reads (ws : List ℕ) (statements : ℕ) (r : Bookmark) : Type 0 where
   pub is : open_of r ≡ read_open statements ws
-  pub room : r.kept.used ≤ ROOM
   pub long : length (line r.kept) ≡ r.kept.used
 
 -- the words of the kept line alone

@@ -57,10 +57,10 @@ FAULTED = 2
 unfoldable pub standing_words : Standing → List ℕ
 standing_words (S.Storing r) = STORING ∷ reader_number r ∷ 0 ∷ 0 ∷ 0 ∷ []
 standing_words (S.Overflowed r) = OVERFLOWED ∷ reader_number r ∷ 0 ∷ 0 ∷ 0 ∷ []
-standing_words (S.Faulted q line place) = FAULTED ∷ 0 ∷ fault_number q ∷ line ∷ place ∷ []
+standing_words (S.Faulted f) = FAULTED ∷ 0 ∷ fault_number f.fault ∷ f.line ∷ f.place ∷ []
 
 unfoldable pub standing_of : (way reader fault line place : ℕ) → Standing
 standing_of way reader fault line place =
     if eqb (way % 3) STORING then S.Storing (reader_of reader)
     else (if eqb (way % 3) OVERFLOWED then S.Overflowed (reader_of reader)
-    else S.Faulted (fault_of fault) (line % COUNTS) (place % PLACES))
+    else S.Faulted (record { fault = fault_of fault; line = line % COUNTS; place = place % PLACES }))

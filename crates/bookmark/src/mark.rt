@@ -1,14 +1,14 @@
 // Where an open text stands between two parts.
 use feeding::kept::Kept;
 use statement::values::Reader;
-use value::faults::Fault;
+use text::TextFault;
 
-// What its complete lines came to: they are stored so far; there is no room for them, but they are read on; or one is faulty, at a place of it.
+// What its complete lines came to: they are stored so far; there is no room for them, but they are read on; or one is faulty.
 #[derive(Clone, Copy)]
 pub enum Standing {
     Storing(Reader),
     Overflowed(Reader),
-    Faulted(Fault, usize, usize),
+    Faulted(TextFault),
 }
 
 // The same, and how many statements, values and bytes of strings are stored behind what the pool holds.

@@ -14,17 +14,17 @@ pub fn read(ws: &[u64], statements: usize) -> Bookmark
 {
     let standing = standing_of(ws[3], ws[4], ws[5], ws[6], ws[7]);
     let entered = Entered {
-        standing: standing,
-        statements: statements,
+        standing,
+        statements,
         values: ws[1] as usize,
         bytes: ws[2] as usize,
     };
     let kept = read_line(&ws[NUMBERWORDS..], ws[10] as usize);
     Bookmark {
-        entered: entered,
+        entered,
         number: (ws[8] % COUNTS) as usize,
         long: (ws[9] % LENGTHS) as usize,
-        kept: kept,
+        kept,
         pending: ws[11] % 2 == 1,
         total: ws[12] as usize,
     }
@@ -37,8 +37,5 @@ fn read_line(ws: &[u64], used: usize) -> Kept
 {
     let mut bytes = [0u8; 133];
     copy_bytes(ws, 0, used, &mut bytes);
-    Kept {
-        bytes: bytes,
-        used: used,
-    }
+    Kept { bytes, used }
 }

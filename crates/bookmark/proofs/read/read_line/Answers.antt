@@ -3,4 +3,4 @@ use Rattle.bookmark.proofs.Bookmarked.{reads-line}
 use Rattle.bookmark.proofs.read.read_line.Goals as goal
 
 pub returns : goal.returns
-returns c = reads-line _ _ _ c.requires c.copy_bytes.ensures
+returns c = reads-line _ _ _ c.requires c.copy_bytes.ensures _

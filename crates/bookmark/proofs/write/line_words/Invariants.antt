@@ -1,5 +1,4 @@
 -- `line_words` meets its contract: after i turns the words hold the first i bytes. Assumes nothing.
-use Prim.Native.Nat.{◌-◌, ◌≤◌}
 use mathlib.Core.Path.{◌≡◌}
 use lib.ListN.{take}
 use Rattle.octets.specs.Octets.{packed}
@@ -7,7 +6,4 @@ use Rattle.bookmark.specs.Limits.{LINEWORDS}
 use Rattle.bookmark.proofs.write.line_words.Given as goal
 
 abbrev pub invariant-loop-i : goal.invariant-loop-i
-invariant-loop-i l = (l.i ≤ l.used) × (l.ws ≡ packed LINEWORDS (take l.i l.bytes))
-
-abbrev pub decreases-loop-i : goal.decreases-loop-i
-decreases-loop-i l = l.used - l.i
+invariant-loop-i l = l.ws ≡ packed LINEWORDS (take l.i l.line)
