@@ -1,24 +1,34 @@
--- A loop that goes up two lists of one length: what is left to compare decides as all do. Assumes nothing.
-use mathlib.Core.Path.{◌≡◌, sym, ap₂, ◌∙◌}
-use mathlib.Core.Bool.{false, or-false}
-use mathlib.Core.List.{List}
-use Prim.Native.Nat.{ℕ, ◌+◌, ◌≤◌, ◌<◌}
-use native.Mathlib.Omega.{arith}
-use borrow.Author.Tests.{eq-eqb, ne_eqb, le-ltb}
-use lib.Dec.{ltb}
-use lib.ListN.{length, drop, get_or}
-use Rattle.words.proofs.Steps.{drop-next, drop-end}
+-- What std's order of slices says of two lists in this crate's words: which stands before, and whether they are equal. Assumes nothing.
+use mathlib.Core.Path.{◌≡◌, refl, sym, ap, ◌∙◌}
+use mathlib.Core.Bool.{Bool, true, false, ◌&&◌, ◌||◌, cond}
+use mathlib.Core.List.{List, [], ◌∷◌}
+use Prim.Native.Nat.{ℕ}
+use lib.Dec.{eqb, ltb}
+use Rattle.std.specs.Ordering.{is_lt, is_eq, nat_cmp, ordering_then}
+use Rattle.std.specs.declared.cmp.Ordering.{Ordering}
+use Rattle.std.specs.declared.cmp.Ordering.TheVariants.{Less, Equal, Greater}
+use Rattle.std.specs.Cmp.Lexicographic.{slice_cmp}
+use Rattle.std.proofs.lemmas.Map.Text.{is_eq-slice_cmp}
+use Rattle.plain.specs.Lists.{equal}
+use Rattle.words.proofs.Chains.{pointwise-equal}
 use Rattle.order.specs.Order.{before}
 
-module _ (xs ys : List ℕ) (i : ℕ) (h : i < length xs) (k : i < length ys) where
-  pub before-next : get_or xs i 0 ≡ get_or ys i 0 → before (drop (i + 1) xs) (drop (i + 1) ys) ≡ before (drop i xs) (drop i ys)
-  unfolding before
-  before-next e = sym (ap₂ before (drop-next xs i 0 h) (drop-next ys i 0 k) ∙ rw (le-ltb (get_or xs i 0) (get_or ys i 0) (omega arith), eq-eqb (get_or xs i 0) (get_or ys i 0) e))
-
-  pub before-stop : (get_or xs i 0 ≡ get_or ys i 0 → ⊥) → ltb (get_or xs i 0) (get_or ys i 0) ≡ before (drop i xs) (drop i ys)
-  unfolding before
-  before-stop n = sym (ap₂ before (drop-next xs i 0 h) (drop-next ys i 0 k) ∙ rw (ne_eqb (get_or xs i 0) (get_or ys i 0) n) (or-false (ltb (get_or xs i 0) (get_or ys i 0))))
-
-pub before-end : (xs ys : List ℕ) (i : ℕ) → length xs ≡ length ys → i ≤ length xs → length xs ≤ i → false ≡ before (drop i xs) (drop i ys)
+is_lt-before : (xs ys : List ℕ) → is_lt (slice_cmp nat_cmp xs ys) ≡ before xs ys
 unfolding before
-before-end xs ys i l h k = sym (ap₂ before (drop-end xs i h k) (drop-end ys i (omega arith) (omega arith)))
+is_lt-before [] [] = refl
+is_lt-before [] (y ∷ ys) = refl
+is_lt-before (x ∷ xs) [] = refl
+is_lt-before (x ∷ xs) (y ∷ ys) = by (ltb x y) (eqb x y) (is_lt-before xs ys)
+  where
+    by : (a b : Bool) → is_lt (slice_cmp nat_cmp xs ys) ≡ before xs ys
+        → is_lt (ordering_then (cond a Less (cond b Equal Greater)) (slice_cmp nat_cmp xs ys)) ≡ a || (b && before xs ys)
+    by true b r = refl
+    by false true r = r
+    by false false r = refl
+
+module _ (xs ys : List ℕ) (o : Ordering) (e : o ≡ slice_cmp nat_cmp xs ys) where
+  pub before-by : before xs ys ≡ is_lt o
+  before-by = sym (ap is_lt e ∙ is_lt-before xs ys)
+
+  pub equal-by : equal xs ys ≡ is_eq o
+  equal-by = sym (ap is_eq e ∙ is_eq-slice_cmp xs ys ∙ pointwise-equal xs ys)

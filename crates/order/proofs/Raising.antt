@@ -1,41 +1,29 @@
 -- A place put among others, those from there on moving up by one. Assumes nothing.
 use mathlib.Core.Path.{◌≡◌, sym, ap, ap₂, subst, ◌∙◌}
 use mathlib.Core.Bool.{Bool, true}
-use mathlib.Core.List.{List, ◌∷◌, ◌++◌, map, map-append}
+use mathlib.Core.List.{List, [], ◌∷◌, ◌++◌, map, map-append}
 use Prim.Native.Nat.{ℕ, suc, ◌+◌, ◌-◌, ◌≤◌, ◌<◌}
 use native.Mathlib.Omega.{arith}
 use borrow.Author.Tests.{lt-ltb}
 use lib.Dec.{ltb}
-use lib.ListN.{length, take, drop, get_or, set, length-drop, length-map}
-use lib.Seq.{get_or-drop, length-take-le, take-add, take_at, drop_at}
+use lib.ListN.{length, take, drop, set, length-drop, length-map}
+use lib.Seq.{paste, length-take-le, take-add, take_at, drop_at}
 use Rattle.plain.proofs.Each.{Each, each_append, each_left, each_right}
 use Rattle.words.specs.Over.{over, part}
 use Rattle.words.specs.Halves.{all}
-use Rattle.words.proofs.Over.{over-turn, get_or-over-after, take-over, part-over, length_over}
+use Rattle.words.proofs.Over.{over-one, over-append, over-comm, paste-over, take-over, part-over, length_over}
 use Rattle.words.proofs.Each.{all-each, each_all}
 use Rattle.order.specs.Places.{Places, name_count, name_at, names_at, raised}
 
--- what is carried and what stands, when the places up to i have been gone through
-module _ (place : ℕ) (ps : List ℕ) (at i : ℕ) (h : at ≤ i) (k : i < length ps) where
-  -- the places as they will stand from `at` on
-  abbrev coming : List ℕ
-  coming = place ∷ drop at ps
-
-  pub carried-next : get_or (over at (take (i - at) coming) ps) i 0 ≡ get_or coming (i + 1 - at) 0
-  carried-next =
-      let e : i + 1 - at ≡ suc (i - at) = omega arith in
-      let f : at + (i - at) ≡ i = omega arith in
-      let l : length (take (i - at) coming) ≡ i - at = length-take-le (i - at) coming (omega (arith, length-drop at ps)) in
-      get_or-over-after at (take (i - at) coming) ps i 0 (omega arith)
-      ∙ sym (ap (λ (n : ℕ). get_or coming n 0) e ∙ get_or-drop at ps (i - at) 0 ∙ ap (λ (n : ℕ). get_or ps n 0) f)
-
-  pub raised-next : set (over at (take (i - at) coming) ps) i (get_or coming (i - at) 0) ≡ over at (take (i + 1 - at) coming) ps
-  raised-next =
-      let e : i - at + 1 ≡ i + 1 - at = omega arith in
-      let f : i ≡ at + (i - at) = omega arith in
-      ap (λ (n : ℕ). set (over at (take (i - at) coming) ps) n (get_or coming (i - at) 0)) f
-      ∙ over-turn at coming ps (i - at) 0 (omega (arith, length-drop at ps))
-      ∙ ap (λ (n : ℕ). over at (take n coming) ps) e
+-- the places from there on copied up by one, and then the place stored
+pub raised-copied : (at held place : ℕ) (ps : List ℕ) → at ≤ held → held < length ps → set (paste ps (at + 1) (drop at ps) (held - at)) at place ≡ raised at held place ps
+raised-copied at held place ps h k =
+    let xs : List ℕ = part at (held - at) ps in
+    let e : paste ps (at + 1) (drop at ps) (held - at) ≡ over (at + 1) xs ps = paste-over (at + 1) (held - at) (drop at ps) ps (omega (arith, length-drop at ps)) (omega arith) in
+    ap (λ (l : List ℕ). set l at place) e
+    ∙ over-one at place (over (at + 1) xs ps)
+    ∙ sym (over-comm at (place ∷ []) (at + 1) xs ps (omega arith))
+    ∙ sym (over-append at (place ∷ []) xs ps)
 
 -- ---- the first places after it, and the names at them
 

@@ -1,12 +1,10 @@
 -- Names as a pool's memory has them, four words each, told by their places; and places in the order of the names. Definitions only.
-use Rattle.std.specs.Prelude.{ℕ, zero, suc, ◌+◌, ◌-◌, ◌*◌, ◌/◌, ◌≤◌, ◌<◌, ◌≡◌, true, List, [], ◌∷◌, map, ltb, length, take, drop, if◌then◌else◌}
+use Rattle.std.specs.Prelude.{ℕ, zero, suc, ◌+◌, ◌-◌, ◌*◌, ◌/◌, ◌≤◌, ◌<◌, ◌≡◌, true, List, [], ◌∷◌, map, ltb, length, take, drop, if◌then◌else◌, Option, None, Some}
 use Rattle.plain.specs.Lists.{equal}
 use Rattle.words.specs.Over.{over, part}
 use Rattle.words.specs.Halves.{all}
 use Rattle.names.specs.Names.{NAMEWORDS, unpacked, holds_name}
 use Rattle.order.specs.Order.{before, inserted}
-use Rattle.order.specs.declared.Spot.{Spot}
-use Rattle.order.specs.declared.Spot.TheVariants.{At, Held}
 
 -- ---- names in words
 
@@ -47,15 +45,21 @@ pub record Places (ws : List ℕ) (held : ℕ) (places : List ℕ) : Type 0 wher
   pub few : held ≤ length places
   pub within : all (λ p. ltb p (name_count ws)) (take held places) ≡ true
 
--- where a name belongs among names in order
-abbrev pub later : ℕ → Spot → Spot
-later k (At j) = At (k + j)
-later k Held = Held
+-- where a name belongs among names in order, and none where it is one of them
+abbrev pub later : ℕ → Option ℕ → Option ℕ
+later k (Some j) = Some (k + j)
+later k None = None
 
-unfoldable pub spot : List ℕ → List (List ℕ) → Spot
+unfoldable pub spot : List ℕ → List (List ℕ) → Option ℕ
 unfolding before
-spot n [] = At 0
-spot n (k ∷ ks) = if before n k then At 0 else (if equal n k then Held else later 1 (spot n ks))
+spot n [] = Some 0
+spot n (k ∷ ks) = if before n k then Some 0 else (if equal n k then None else later 1 (spot n ks))
+
+-- what finding the spot of the name at a place needs, among the names at some places
+pub record Spotting (ws : List ℕ) (place : ℕ) (ps : List ℕ) : Type 0 where
+  pub names : Legible ws
+  pub places : Places ws (length ps) ps
+  pub named : place < name_count ws
 
 -- a place is put among the first ones, those from there on moving up by one
 abbrev pub raised : (at held place : ℕ) → List ℕ → List ℕ

@@ -31,24 +31,24 @@ module _ (ws : List ℕ) (held i : ℕ) (ps : List ℕ) (some : 0 < i) (S : Sort
             ∙ sym (ordered-next ws (i - 1) (omega (arith, S.few)));
       }
 
-pub loop-i-init : goal.loop-i-init
-loop-i-init c = (none-sorted _ _, refl)
+pub loop-place-init : goal.loop-place-init
+loop-place-init c = (none-sorted _ _, refl)
 
 pub insert-held-requires : goal.insert-held-requires
 insert-held-requires c =
-    inserting _ _ _ _ c.loop-i-test.true c.loop-i.invariant.0 c.requires.names (omega (arith, c.requires.room, c.loop-i.invariant.1))
+    inserting _ _ _ _ (omega arith) c.loop-place.invariant.0 c.requires.names (omega (arith, c.requires.room, c.loop-place.invariant.1))
 
-pub loop-i-preserved : goal.loop-i-preserved
-loop-i-preserved c =
-    (one_more _ _ _ _ c.loop-i-test.true c.loop-i.invariant.0 _ _ c.insert-held.ensures, c.insert-held.ensures.sized ∙ c.loop-i.invariant.1)
+pub loop-place-preserved : goal.loop-place-preserved
+loop-place-preserved c =
+    (one_more _ _ _ _ (omega arith) c.loop-place.invariant.0 _ _ c.insert-held.ensures, c.insert-held.ensures.sized ∙ c.loop-place.invariant.1)
 
 pub shape_of-places : goal.shape_of-places
-shape_of-places c = c.loop-i.invariant.1
+shape_of-places c = c.loop-place.invariant.1
 
 pub returns : goal.returns
 returns c =
-    let l = c.loop-i in
-    let e : l.i ≡ 0 = omega arith in
+    let l = c.loop-place in
+    let e : l.place ≡ 0 = omega arith in
     let ws = c.args.names.now in
     record {
       places = l.invariant.0.places;
