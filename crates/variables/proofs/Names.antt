@@ -15,7 +15,6 @@ use Rattle.words.proofs.Each.{WORD, Words}
 use Rattle.words.proofs.Same.{same_refl, same-equal}
 use Rattle.names.specs.Names.{NAMEWORDS, legal, packed, unpacked, holds_name}
 use Rattle.names.proofs.Names.{same_name, same-words}
-use Rattle.layout.specs.Limits.{NAMES_AT}
 use Rattle.layout.specs.Memory.{statement_count, head_words, name_words}
 use Rattle.layout.proofs.Areas.{length-heads, length-names}
 use Rattle.layout.proofs.Sound.{Named, Sound}
@@ -35,14 +34,14 @@ words-part o n ws W = each_take (λ w. w < WORD) n (drop o ws) (each-drop (λ w.
 
 -- ---- a name that is asked for, and a statement's
 
-module _ (n m : List ℕ) (e : legal n ≡ true) (S : Sound m) (W : Words m) (k : ℕ) (h : k < statement_count m) where
+module _ (n m : List ℕ) (e : legal n ≡ true) (S : Sound m) (W : Words (name_words m)) (k : ℕ) (h : k < statement_count m) where
   length-words : length (words_at m k) ≡ NAMEWORDS
   length-words =
       length-take-le NAMEWORDS (drop (NAMEWORDS * k) (name_words m))
       (omega (arith, length-drop (NAMEWORDS * k) (name_words m), length-names m S.sizes))
 
   words-words : Words (words_at m k)
-  words-words = words-part (NAMEWORDS * k) NAMEWORDS (name_words m) (words-part NAMES_AT (NAMEWORDS * statement_count m) m W)
+  words-words = words-part (NAMEWORDS * k) NAMEWORDS (name_words m) W
 
   named : holds_name (words_at m k) ≡ true
   named = named-at (head_words m) (name_words m) k (omega (arith, length-heads m S.sizes)) S.names
@@ -64,7 +63,7 @@ module _ (n m : List ℕ) (e : legal n ≡ true) (S : Sound m) (W : Words m) (k 
 
 pub record Hands (pool name words heads names : List ℕ) : Type 0 where
   pub sound : Sound pool
-  pub fit : Words pool
+  pub fit : Words names
   pub legal= : legal name ≡ true
   pub words= : words ≡ packed name
   pub heads= : heads ≡ head_words pool
@@ -80,7 +79,7 @@ module _ {pool name words heads names : List ℕ} (H : Hands pool name words hea
   -- the test of a statement's words tells whether it has the name
   pub has-told : (k : ℕ) → k < statement_count pool → (t : Bool) → t ≡ equal (part (NAMEWORDS * k) NAMEWORDS names) words → has name (statement_at pool k) ≡ t
   has-told k h t e =
-      has_words name pool H.legal= H.sound H.fit k h
+      has_words name pool H.legal= H.sound (rw H.names= at H.fit) k h
       ∙ sym (e ∙ ap₂ (λ (x y : List ℕ). equal (part (NAMEWORDS * k) NAMEWORDS x) y) H.names= H.words=)
 
   pub head-told : (k : ℕ) → get_or heads k 0 ≡ head_at pool k

@@ -1,14 +1,15 @@
 -- The walk backward: the statements from place s on are passed, none of them a direct assignment to the name, and their values with the name
 -- are counted, and the strings among them. Assumes nothing.
 use Prim.Native.Nat.{ℕ, ◌+◌, ◌*◌, ◌-◌, ◌/◌, ◌%◌, ◌≤◌, ◌<◌}
-use mathlib.Core.Path.{◌≡◌, sym, ap, ◌∙◌}
+use mathlib.Core.Path.{◌≡◌, sym, ap, ap₂, ◌∙◌}
 use mathlib.Core.Bool.{Bool, true, false}
-use mathlib.Core.List.{List, [], ◌∷◌}
+use mathlib.Core.List.{List, [], ◌∷◌, reverse}
 use native.Mathlib.Omega.{arith}
 use borrow.Author.Tests.{eq-eqb, ne_eqb}
 use lib.Dec.{eqb}
 use lib.ListN.{length, take, drop, get_or}
 use Rattle.std.specs.Prelude.{if◌then◌else◌}
+use Rattle.std.proofs.lemmas.List.{length-reverse, get_or-reverse, get_or_default}
 use Rattle.plain.specs.Lists.{equal}
 use Rattle.statement.specs.Statements.{Statement}
 use Rattle.words.specs.Over.{part}
@@ -31,6 +32,19 @@ pub sum_back : (ws : List ℕ) (k : ℕ) → 0 < k → k ≤ length ws → sum (
 sum_back ws k h l =
     let e : k ≡ k - 1 + 1 = omega arith in
     ap (λ (j : ℕ). sum (take j ws)) e ∙ sum-take-next (k - 1) ws (omega arith)
+
+-- one text more of those that are passed from the last one back
+pub text_back : (ws : List ℕ) (k w : ℕ) → (k < length (reverse ws)) × (w ≡ get_or (reverse ws) k w)
+    → sum (take (length ws - k) ws) ≡ sum (take (length ws - (k + 1)) ws) + lower w
+text_back ws k w p =
+    let h : k < length ws = omega (arith, length-reverse ws, p.0) in
+    let a : length ws - k - 1 ≡ length ws - (k + 1) = omega arith in
+    let b : length ws - 1 - k ≡ length ws - (k + 1) = omega arith in
+    let e : w ≡ get_or ws (length ws - (k + 1)) 0 =
+    p.1 ∙ get_or-reverse ws k w h ∙ ap (λ (i : ℕ). get_or ws i w) b ∙ get_or_default ws (length ws - (k + 1)) w 0 (omega arith) in
+    sum_back ws (length ws - k) (omega arith) (omega arith)
+    ∙ ap₂ (λ (i j : ℕ). sum (take i ws) + lower (get_or ws j 0)) a a
+    ∙ ap (λ (v : ℕ). sum (take (length ws - (k + 1)) ws) + lower v) (sym e)
 
 -- ---- the statements passed
 

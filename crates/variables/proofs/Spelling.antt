@@ -8,6 +8,7 @@ use borrow.Author.Tests.{eq-eqb, ne_eqb, le-leb, lt-leb}
 use lib.Dec.{eqb}
 use lib.ListN.{length, drop, get_or, length-drop}
 use lib.Seq.{length-take-le}
+use Rattle.std.specs.Prelude.{Result, Ok, Err}
 use Rattle.plain.specs.Bytes.{within}
 use Rattle.statement.specs.Statements.{how_many, Statement}
 use Rattle.words.specs.Over.{over, part}
@@ -26,8 +27,8 @@ use Rattle.variables.specs.Walk.{string_count, Begins}
 use Rattle.variables.specs.Found.{fitted, filled}
 use Rattle.variables.specs.Spelled.{letters, string_of, spelled_in, Spells}
 use Rattle.variables.specs.Places.{Stands, Spelt, byte_before, Placed, Copies}
-use Rattle.variables.specs.declared.variable.Found.{Found}
-use Rattle.variables.specs.declared.variable.Found.TheVariants.{Count, TooMany, Mixed, Absent}
+use Rattle.variables.specs.declared.variable.FindError.{FindError}
+use Rattle.variables.specs.declared.variable.FindError.TheVariants.{TooMany, Mixed, Absent}
 use Rattle.variables.proofs.Counts.{count_most, all_strings-counted}
 use Rattle.variables.proofs.Held.{head_at, offset_at, statement_at, values-within, count_at, program-next}
 use Rattle.variables.proofs.Strings.{part-front, no_number, string-placed, string-at, number-there}
@@ -92,14 +93,14 @@ module _ (m : List ℕ) {values : List ℕ} (v : values ≡ value_words m) (valu
   long= : long ≡ get_or (value_words m) value 0
   long= = ap (λ (l : List ℕ). get_or l value 0) v
 
-  copies : (r : Found) (after : List ℕ) → r ≡ fitted long (length before) → after ≡ filled r (part byte long (held_bytes m)) before → Copies m value byte before r after
+  copies : (r : Result ℕ FindError) (after : List ℕ) → r ≡ fitted long (length before) → after ≡ filled r (part byte long (held_bytes m)) before → Copies m value byte before r after
   copies r after f b = record {
     found = f ∙ ap (λ (n : ℕ). fitted n (length before)) long=;
     buffer = b ∙ ap (λ (n : ℕ). filled r (part byte n (held_bytes m)) before) long=;
   }
 
-  pub copies-none : length before < long → Copies m value byte before TooMany before
-  copies-none h = copies TooMany before (rw (lt-leb long (length before) h)) refl
+  pub copies-none : length before < long → Copies m value byte before (Err TooMany) before
+  copies-none h = copies (Err TooMany) before (rw (lt-leb long (length before) h)) refl
 
   module _ (S : Sound m) (P : Placed m value byte) {area : List ℕ} (a : area ≡ part BYTES_AT BYTEWORDS m) where
     pub copied-fits : byte + long ≤ 8 * length area
@@ -111,8 +112,8 @@ module _ (m : List ℕ) {values : List ℕ} (v : values ≡ value_words m) (valu
         ap (λ (l : List ℕ). part byte long (octets l)) a
         ∙ sym (part-front byte long (byte_count m) (octets (part BYTES_AT BYTEWORDS m)) (omega (arith, long=, P.fits)))
 
-    pub copies-bytes : long ≤ length before → (after : List ℕ) → after ≡ over 0 (part byte long (octets area)) before → Copies m value byte before (Count long) after
-    copies-bytes h after f = copies (Count long) after (rw (le-leb long (length before) h)) (f ∙ ap (λ (l : List ℕ). over 0 l before) held=)
+    pub copies-bytes : long ≤ length before → (after : List ℕ) → after ≡ over 0 (part byte long (octets area)) before → Copies m value byte before (Ok long) after
+    copies-bytes h after f = copies (Ok long) after (rw (le-leb long (length before) h)) (f ∙ ap (λ (l : List ℕ). over 0 l before) held=)
 
 -- ---- the answers
 
@@ -120,39 +121,39 @@ module _ (name m : List ℕ) (place : ℕ) (before : List ℕ) where
   abbrev values : List Datum
   values = variable name (decode m)
 
-  spells : (r : Found) (after : List ℕ) → spelled_in name place (length before) (decode m) ≡ r → after ≡ filled r (string_of place values) before → Spells name place m before r after
-  spells r after e f = record { found = sym e; buffer = f ∙ ap (λ (x : Found). filled x (string_of place values) before) (sym e) }
+  spells : (r : Result ℕ FindError) (after : List ℕ) → spelled_in name place (length before) (decode m) ≡ r → after ≡ filled r (string_of place values) before → Spells name place m before r after
+  spells r after e f = record { found = sym e; buffer = f ∙ ap (λ (x : Result ℕ FindError). filled x (string_of place values) before) (sym e) }
 
-  spells-none : within 1 (length values) place ≡ false → Spells name place m before Absent before
+  spells-none : within 1 (length values) place ≡ false → Spells name place m before (Err Absent) before
   unfolding spelled_in
-  spells-none e = spells Absent before (rw e) refl
+  spells-none e = spells (Err Absent) before (rw e) refl
 
   -- no place is in no values
   nowhere : (p : ℕ) → within 1 0 p ≡ false
   nowhere zero = refl
   nowhere (suc p) = within-above 1 0 (suc p) (omega arith)
 
-  pub spells-absent : values ≡ [] → Spells name place m before Absent before
+  pub spells-absent : values ≡ [] → Spells name place m before (Err Absent) before
   spells-absent e = spells-none (ap (λ (l : List Datum). within 1 (length l) place) e ∙ nowhere place)
 
-  pub spells-zero : place ≡ 0 → Spells name place m before Absent before
+  pub spells-zero : place ≡ 0 → Spells name place m before (Err Absent) before
   spells-zero e = spells-none (within-below 1 (length values) place (omega arith))
 
-  pub spells-past : length values < place → Spells name place m before Absent before
+  pub spells-past : length values < place → Spells name place m before (Err Absent) before
   spells-past h = spells-none (within-above 1 (length values) place h)
 
   module _ (some : 0 < place) (most : place ≤ length values) where
     inside-values : within 1 (length values) place ≡ true
     inside-values = within-inside 1 (length values) place (omega arith) most
 
-    pub spells-mixed : string_count values < length values → Spells name place m before Mixed before
+    pub spells-mixed : string_count values < length values → Spells name place m before (Err Mixed) before
     unfolding spelled_in
     spells-mixed h =
         let n : all_strings values ≡ false = all_strings-counted values ∙ ne_eqb (string_count values) (length values) (λ z. omega arith) in
-        spells Mixed before (rw (inside-values, n)) refl
+        spells (Err Mixed) before (rw (inside-values, n)) refl
 
     pub spells-string : {s value index : ℕ} → Sound m → Stands name m (place - 1) s value index → all_strings values ≡ true → (b : ℕ) → b ≡ byte_before m s value index
-        → (r : Found) (after : List ℕ) → Copies m (value + index) b before r after → Spells name place m before r after
+        → (r : Result ℕ FindError) (after : List ℕ) → Copies m (value + index) b before r after → Spells name place m before r after
     unfolding spelled_in
     spells-string S T a b q r after C =
         let o = ap letters (stands-string S T a b q) in

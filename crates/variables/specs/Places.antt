@@ -1,5 +1,5 @@
 -- Where a value of a variable stands in a memory, and where a string's bytes do. Definitions only.
-use Rattle.std.specs.Prelude.{ℕ, ◌+◌, ◌≤◌, ◌<◌, ◌≡◌, List, [], ◌∷◌, length, take, drop, get_or}
+use Rattle.std.specs.Prelude.{ℕ, ◌+◌, ◌≤◌, ◌<◌, ◌≡◌, List, [], ◌∷◌, length, take, drop, get_or, Result}
 use Rattle.statement.specs.Statements.{Statement, how_many}
 use Rattle.words.specs.Over.{part}
 use Rattle.words.specs.Halves.{sum, lower}
@@ -8,7 +8,7 @@ use Rattle.layout.specs.Memory.{statement_count, value_count, byte_count, head_w
 use Rattle.layout.specs.Damage.{total_bytes}
 use Rattle.variables.specs.Variables.{string, each, variable}
 use Rattle.variables.specs.Found.{fitted, filled}
-use Rattle.variables.specs.declared.variable.Found.{Found}
+use Rattle.variables.specs.declared.variable.FindError.{FindError}
 
 -- the value at a place of the variable, counted from 0, is the value `index` of the statement at place `statement`, whose values are
 -- those from place `value` on
@@ -36,6 +36,6 @@ pub record Placed (m : List ℕ) (value byte : ℕ) : Type 0 where
   pub fits : byte + get_or (value_words m) value 0 ≤ byte_count m
 
 -- they are copied to a buffer's start if they have room
-pub record Copies (m : List ℕ) (value byte : ℕ) (before : List ℕ) (r : Found) (after : List ℕ) : Type 0 where
+pub record Copies (m : List ℕ) (value byte : ℕ) (before : List ℕ) (r : Result ℕ FindError) (after : List ℕ) : Type 0 where
   pub found : r ≡ fitted (get_or (value_words m) value 0) (length before)
   pub buffer : after ≡ filled r (part byte (get_or (value_words m) value 0) (held_bytes m)) before

@@ -4,43 +4,38 @@ ghost use Rattle.std.specs.Float.{binary64};
 ghost use Rattle.std.specs.Float.Ieee.{of_bits};
 ghost use Rattle.words.specs.Over.{over};
 ghost use Rattle.words.specs.Halves.{all};
-ghost use Rattle.names.specs.Names.{legal};
 ghost use Rattle.layout.specs.Memory.{decode};
-ghost use Rattle.layout.specs.Damage.{sound, small};
+ghost use Rattle.layout.specs.Damage.{small};
 ghost use Rattle.variables.specs.Walk.{Begins};
 ghost use Rattle.variables.specs.Found.{doubles};
 
+use crate::legal::Legal;
 use crate::name::is_named;
 use crate::walk::Start;
-use layout::area::{heads_of, names_of, values_of};
-use layout::limits::HALF;
+use layout::head::value_count;
+use layout::undamaged::Undamaged;
 use names::pack::pack;
 use words::read::part_of;
 
 // The numbers of the variable that begins at `start`, none of its values being a string, are written from the buffer's start on.
-pub fn gather(pool: &[u64], name: &[u8], start: Start, out: &mut [f64])
-    requires pool_and_name { (sound pool.now ≡ true) × (legal name.now ≡ true) }
-    requires begins { Begins name.now pool.now start.statement start.value start.count start.strings }
+pub fn gather(pool: Undamaged, name: Legal, start: Start, out: &mut [f64])
+    requires begins { Begins name.bytes.now pool.words.now start.statement start.value start.count start.strings }
     requires numbers_with_room { (start.strings ≡ 0) × (start.count ≤ length out.old) }
-    ensures { out.new ≡ over 0 (doubles name.now (decode pool.now)) out.old }
+    ensures { out.new ≡ over 0 (doubles name.entry.bytes.now (decode pool.entry.words.now)) out.old }
 {
-    let words = pack(name);
-    let heads = heads_of(pool);
-    let names = names_of(pool);
-    let values = values_of(pool);
-    let mut s = start.statement;
+    let words = pack(name.bytes);
+    let heads = pool.heads();
+    let names = pool.names();
+    let values = pool.values();
     let mut value = start.value;
     let mut at = 0;
-    while s < heads.len() {
-        let i = s;
-        let from = value;
-        let n = (heads[i] % HALF) as usize;
-        value += n;
-        s += 1;
-        if is_named(names, i, &words) {
-            copy_doubles(part_of(values, from, n), at, out);
+    for s in start.statement..heads.len() {
+        let n = value_count(heads[s]);
+        if is_named(names, s, &words) {
+            copy_doubles(part_of(values, value, n), at, out);
             at += n;
         }
+        value += n;
     }
 }
 
@@ -50,9 +45,7 @@ fn copy_doubles(bits: &[u64], at: usize, out: &mut [f64])
     requires all_small { all small bits.now ≡ true }
     ensures { out.new ≡ over at (map (of_bits binary64) bits.now) out.old }
 {
-    let mut j = 0;
-    while j < bits.len() {
-        out[at + j] = f64::from_bits(bits[j]);
-        j += 1;
+    for (j, word) in bits.iter().enumerate() {
+        out[at + j] = f64::from_bits(*word);
     }
 }

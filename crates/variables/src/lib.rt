@@ -2,6 +2,7 @@
 #![tactic(auto)]
 
 pub mod gather;
+pub mod legal;
 pub mod name;
 pub mod spot;
 pub mod string;

@@ -14,13 +14,7 @@ use words::read::part_of;
 pub fn is_legal(name: &[u8]) -> bool
     ensures { result ≡ legal name.now }
 {
-    if name.len() < 1 {
-        return false;
-    }
-    if NAME < name.len() {
-        return false;
-    }
-    past(Class::Name, name, 0) == name.len()
+    (1..=NAME).contains(&name.len()) && past(Class::Name, name, 0) == name.len()
 }
 
 // Statement s has the name of these four words.

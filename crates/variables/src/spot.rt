@@ -1,14 +1,13 @@
 // Where a value of a variable stands: found forward from where the variable begins.
-ghost use Rattle.std.specs.Prelude.{◌≡◌, true, ◌<◌};
-ghost use Rattle.names.specs.Names.{legal};
-ghost use Rattle.layout.specs.Damage.{sound};
+ghost use Rattle.std.specs.Prelude.{◌<◌};
 ghost use Rattle.variables.specs.Walk.{Begins};
 ghost use Rattle.variables.specs.Places.{Stands};
 
+use crate::legal::Legal;
 use crate::name::is_named;
 use crate::walk::Start;
-use layout::area::{heads_of, names_of};
-use layout::limits::HALF;
+use layout::head::value_count;
+use layout::undamaged::Undamaged;
 use names::pack::pack;
 
 // A statement, the place of its first value, and one of its values, counted from 0.
@@ -20,38 +19,29 @@ pub struct Spot {
 }
 
 // The value at a place of the variable that begins at `start`, counted from 0.
-pub fn locate(pool: &[u64], name: &[u8], start: Start, place: usize) -> Spot
-    requires pool_and_name { (sound pool.now ≡ true) × (legal name.now ≡ true) }
-    requires begins { Begins name.now pool.now start.statement start.value start.count start.strings }
+pub fn locate(pool: Undamaged, name: Legal, start: Start, place: usize) -> Spot
+    requires begins { Begins name.bytes.now pool.words.now start.statement start.value start.count start.strings }
     requires place_lt_count { place < start.count }
-    ensures { Stands name.now pool.now place result.statement result.value result.index }
+    ensures { Stands name.entry.bytes.now pool.entry.words.now place result.statement result.value result.index }
 {
-    let words = pack(name);
-    let heads = heads_of(pool);
-    let names = names_of(pool);
-    let mut s = start.statement;
+    let words = pack(name.bytes);
+    let heads = pool.heads();
+    let names = pool.names();
     let mut value = start.value;
-    let mut left = place;
-    while s < heads.len() {
-        let i = s;
-        let from = value;
-        let n = (heads[i] % HALF) as usize;
-        value += n;
-        s += 1;
-        if is_named(names, i, &words) {
-            if left < n {
+    let mut index = place;
+    for s in start.statement..heads.len() {
+        let n = value_count(heads[s]);
+        if is_named(names, s, &words) {
+            if index < n {
                 return Spot {
-                    statement: i,
-                    value: from,
-                    index: left,
+                    statement: s,
+                    value,
+                    index,
                 };
             }
-            left -= n;
+            index -= n;
         }
+        value += n;
     }
-    Spot {
-        statement: 0,
-        value: 0,
-        index: 0,
-    }
+    unreachable!()
 }

@@ -1,19 +1,17 @@
 // "a variable there is the values of the last direct assignment among those texts": where it begins.
-ghost use Rattle.std.specs.Prelude.{◌≡◌, true, ◌/◌, eqb, if◌then◌else◌};
+ghost use Rattle.std.specs.Prelude.{◌≡◌, ◌/◌, eqb, if◌then◌else◌};
 ghost use Rattle.words.specs.Halves.{upper};
-ghost use Rattle.names.specs.Names.{legal};
-ghost use Rattle.layout.specs.Damage.{sound};
 ghost use Rattle.variables.specs.Walk.{Begins};
 
+use crate::legal::Legal;
 use crate::name::is_named;
-use layout::area::{heads_of, names_of, texts_of};
-use layout::limits::{HALF, VALUE_COUNT};
+use layout::head::{holds_numbers, value_count};
+use layout::undamaged::Undamaged;
 use names::pack::pack;
+use words::half::{lower, upper};
 
-// A head's upper number is kind · 2 + operator: the operator's number of a direct assignment, and the kind's of strings.
+// A head's upper number is kind · 2 + operator: the operator's number of a direct assignment.
 const DIRECT: u64 = 0;
-
-const STRINGS: u64 = 1;
 
 // A variable's first statement, the first of that statement's values, how many values the variable has, and how many of them are strings.
 #[derive(Clone, Copy)]
@@ -25,39 +23,36 @@ pub struct Start {
 }
 
 // Walks backward over the texts and their statements, and leaves at the last direct assignment to the name.
-pub fn walk(pool: &[u64], name: &[u8]) -> Start
-    requires { (sound pool.now ≡ true) × (legal name.now ≡ true) }
-    ensures { Begins name.now pool.now result.statement result.value result.count result.strings }
+pub fn walk(pool: Undamaged, name: Legal) -> Start
+    ensures { Begins name.entry.bytes.now pool.entry.words.now result.statement result.value result.count result.strings }
 {
-    let words = pack(name);
-    let texts = texts_of(pool);
-    let heads = heads_of(pool);
-    let names = names_of(pool);
-    let mut t = texts.len();
-    let mut s = heads.len();
-    let mut value = pool[VALUE_COUNT] as usize;
+    let words = pack(name.bytes);
+    let texts = pool.texts();
+    let heads = pool.heads();
+    let names = pool.names();
+    let mut statement = heads.len();
+    let mut value = pool.totals().values as usize;
     let mut count = 0;
     let mut strings = 0;
-    'texts: while 0 < t {
-        t -= 1;
-        let mut left = (texts[t] % HALF) as usize;
-        while 0 < left {
-            left -= 1;
-            s -= 1;
+    // document 01 names this loop: backward over the texts and their statements, and left from inside
+    'texts: for text in texts.iter().rev() {
+        let first = statement - lower(*text) as usize;
+        for s in (first..statement).rev() {
             let head = heads[s];
-            let n = (head % HALF) as usize;
+            let n = value_count(head);
+            statement = s;
             value -= n;
             if is_named(names, s, &words) {
                 count += n;
                 strings += strings_in(head, n);
-                if head / HALF % 2 == DIRECT {
+                if upper(head) % 2 == DIRECT {
                     break 'texts;
                 }
             }
         }
     }
     Start {
-        statement: s,
+        statement,
         value,
         count,
         strings,
@@ -68,8 +63,5 @@ pub fn walk(pool: &[u64], name: &[u8]) -> Start
 fn strings_in(head: u64, n: usize) -> usize
     ensures { result ≡ (if eqb (upper head / 2) 0 then 0 else n) }
 {
-    if head / HALF / 2 < STRINGS {
-        return 0;
-    }
-    n
+    if holds_numbers(head) { 0 } else { n }
 }

@@ -15,27 +15,19 @@ use Rattle.layout.proofs.Sound.{sound-of}
 use Rattle.variables.proofs.Names.{Hands, length-hands, room-hands}
 use Rattle.variables.proofs.Gathering.{gathered_none, gathered-all, bits-within, bits_small, length-bits, gather-other, gather-room, gather-copy}
 use Rattle.variables.proofs.gather.gather.Goals as goal
-
-pub heads_of-heads-requires : goal.heads_of-heads-requires
-heads_of-heads-requires c = (sound-of _ c.requires.pool_and_name.0).sizes
-
-pub names_of-names-requires : goal.names_of-names-requires
-names_of-names-requires c = (sound-of _ c.requires.pool_and_name.0).sizes
-
-pub values_of-values-requires : goal.values_of-values-requires
-values_of-values-requires c = (sound-of _ c.requires.pool_and_name.0).sizes
+use Rattle.variables.proofs.gather.gather.Goals.{then-is_named, else-is_named}
 
 pub loop-s-init : goal.loop-s-init
 loop-s-init c =
-    let H : Hands c.args.pool.now c.args.name.now _ _ _ = record {
-      sound = sound-of c.args.pool.now c.requires.pool_and_name.0;
-      fit = words_of c.args.pool.now (λ i. omega (arith, c.shared_slice_known-1.given i));
-      legal= = c.requires.pool_and_name.1;
+    let H : Hands c.args.pool.words.now c.args.name.bytes.now _ _ _ = record {
+      sound = sound-of c.args.pool.words.now c.args.pool.tested;
+      fit = words_of _ (λ i. omega (arith, c.type_inv.names i));
+      legal= = c.args.name.ruled;
       words= = c.pack-words.ensures;
-      heads= = c.heads_of-heads.ensures;
-      names= = c.names_of-names.ensures;
+      heads= = c.heads-heads.ensures;
+      names= = c.names-names.ensures;
     } in
-    (H, c.values_of-values.ensures, gathered_none _ _ _ _ _ _ _ c.requires.begins c.requires.numbers_with_room.0 c.requires.numbers_with_room.1)
+    (H, c.values-values.ensures, gathered_none _ _ _ _ _ _ _ c.requires.begins c.requires.numbers_with_room.0 c.requires.numbers_with_room.1)
 
 -- in the loop, at the statement s
 there : {m name words heads names : List ℕ} {s : ℕ} → Hands m name words heads names → s < length heads → s < statement_count m
@@ -44,7 +36,7 @@ there H h = let e = length-hands H in omega arith
 pub overflow_add-value : goal.overflow_add-value
 overflow_add-value c =
     let v = c.loop-s.invariant in
-    omega (arith, bits-within v.0 _ v.1 v.2 (there c.loop-s.invariant.0 c.loop-s-test.true), ap length v.1, length-values _ v.0.sound.sizes, v.0.sound.sizes.values)
+    omega (arith, c.value_count-n.ensures, bits-within v.0 _ v.1 v.2 (there c.loop-s.invariant.0 c.loop-s-test.true), ap length v.1, length-values _ v.0.sound.sizes, v.0.sound.sizes.values)
 
 pub is_named-requires : goal.is_named-requires
 is_named-requires c = omega (arith, there c.loop-s.invariant.0 c.loop-s-test.true, room-hands c.loop-s.invariant.0)
@@ -52,12 +44,12 @@ is_named-requires c = omega (arith, there c.loop-s.invariant.0 c.loop-s-test.tru
 pub part_of-requires : goal.part_of-requires
 part_of-requires c =
     let v = c.loop-s.invariant in
-    bits-within v.0 _ v.1 v.2 (there c.loop-s.invariant.0 c.loop-s-test.true)
+    rw c.value_count-n.ensures (bits-within v.0 _ v.1 v.2 (there c.loop-s.invariant.0 c.loop-s-test.true))
 
 pub copy_doubles-requires : goal.copy_doubles-requires
 copy_doubles-requires c =
     let v = c.loop-s.invariant in
-    let e = c.part_of.ensures in
+    let e = rw c.value_count-n.ensures at c.part_of.ensures in
     let t = there v.0 c.loop-s-test.true in
     record {
       bits_in_bounds = omega (arith, ap length e, length-bits v.0 _ v.1 v.2 t, gather-room v.0 _ v.1 v.2 t _ c.is_named.ensures c.if-is_named.true);
@@ -67,21 +59,21 @@ copy_doubles-requires c =
 pub overflow_add-at : goal.overflow_add-at
 overflow_add-at c =
     let v = c.loop-s.invariant in
-    omega (arith, gather-room v.0 _ v.1 v.2 (there v.0 c.loop-s-test.true) _ c.is_named.ensures c.if-is_named.true, v.2.long)
-
-pub loop-s-preserved-then-is_named : goal.loop-s-preserved-then-is_named
-loop-s-preserved-then-is_named c =
-    let v = c.loop-s.invariant in (
-      v.0,
-      v.1,
-      gather-copy v.0 _ v.1 v.2 (there c.loop-s.invariant.0 c.loop-s-test.true) _ c.is_named.ensures c.if-is_named.true _
-          (c.copy_doubles.ensures ∙ ap (λ (l : List ℕ). over c.loop-s.at (map (of_bits binary64) l) c.loop-s.out) c.part_of.ensures),
-    )
+    omega (arith, c.value_count-n.ensures, gather-room v.0 _ v.1 v.2 (there v.0 c.loop-s-test.true) _ c.is_named.ensures c.if-is_named.true, v.2.long)
 
 pub loop-s-preserved : goal.loop-s-preserved
 loop-s-preserved c =
     let v = c.loop-s.invariant in
-    (v.0, v.1, gather-other v.0 _ v.1 v.2 (there c.loop-s.invariant.0 c.loop-s-test.true) _ c.is_named.ensures c.if-is_named.false)
+    let t = there v.0 c.loop-s-test.true in
+    elim c.if-is_named.branch [
+      | then-is_named w ↦ (
+        v.0,
+        v.1,
+        rw (w.out-is, w.at-is, c.value_count-n.ensures) (gather-copy v.0 _ v.1 v.2 t _ c.is_named.ensures w.if-is_named.true _
+            (w.copy_doubles.ensures ∙ ap (λ (l : List ℕ). over c.loop-s.at (map (of_bits binary64) l) c.loop-s.out) (rw c.value_count-n.ensures at w.part_of.ensures))),
+      )
+      | else-is_named w ↦ (v.0, v.1, rw (w.out-is, w.at-is, c.value_count-n.ensures) (gather-other v.0 _ v.1 v.2 t _ c.is_named.ensures w.if-is_named.false))
+    ]
 
 pub returns : goal.returns
 returns c =

@@ -1,14 +1,9 @@
 -- `gather` meets its contract: what is left to write makes, from the place reached on, the variable that is wanted. Assumes nothing.
 use mathlib.Core.Path.{◌≡◌}
-use Prim.Native.Nat.{◌-◌}
-use lib.ListN.{length}
 use Rattle.layout.specs.Memory.{value_words}
 use Rattle.variables.proofs.Names.{Hands}
 use Rattle.variables.proofs.Gathering.{Gathered}
 use Rattle.variables.proofs.gather.gather.Given as goal
 
 abbrev pub invariant-loop-s : goal.invariant-loop-s
-invariant-loop-s l = Hands l.pool l.name l.words l.heads l.names × (l.values ≡ value_words l.pool) × Gathered l.name l.pool l.initial.out l.out l.s l.value l.at
-
-abbrev pub decreases-loop-s : goal.decreases-loop-s
-decreases-loop-s l = length l.heads - l.s
+invariant-loop-s l = Hands l.fn.pool.words.now l.fn.name.bytes.now l.words l.heads l.names × (l.values ≡ value_words l.fn.pool.words.now) × Gathered l.fn.name.bytes.now l.fn.pool.words.now l.initial.out l.out l.s l.value l.at

@@ -4,10 +4,12 @@ use mathlib.Core.Path.{◌≡◌, refl, sym, ap, ◌∙◌}
 use mathlib.Core.Bool.{Bool, true, false}
 use mathlib.Core.List.{List, [], ◌∷◌}
 use native.Mathlib.Nat.{zero-add}
-use borrow.Author.Tests.{lt-leb, le-leb}
 use lib.Dec.{eqb, leb, eqb-zero-suc, eqb-suc-suc}
 use lib.ListN.{length}
 use Rattle.std.specs.Prelude.{if◌then◌else◌}
+use Rattle.plain.specs.Bytes.{within}
+use Rattle.std.proofs.lemmas.Bool.Decides.{nat_tests}
+use native.Mathlib.Omega.{arith}
 use Rattle.plain.specs.Runs.{run, past}
 use Rattle.value.specs.Classes.{name_byte}
 use Rattle.statement.specs.Head.{NAME}
@@ -28,18 +30,21 @@ all_past : (p : ℕ → Bool) (bs : List ℕ) → eqb (past p bs 0) (length bs) 
 unfolding past
 all_past p bs = ap (λ (k : ℕ). eqb k (length bs)) (zero-add (length (run p bs))) ∙ sym (all-run p bs)
 
-pub returns-then-name-lt1 : goal.returns-then-name-lt1
+pub returns-then-contains : goal.returns-then-contains
 unfolding legal
-returns-then-name-lt1 c = rw (lt-leb 1 _ c.if-name-lt1.true)
-
-pub returns-then-name-gt-NAME : goal.returns-then-name-gt-NAME
-unfolding legal
-returns-then-name-gt-NAME c = rw (le-leb 1 _ c.if-name-lt1.false, lt-leb _ NAME c.if-name-gt-NAME.true)
-
-pub returns : goal.returns
-unfolding legal
-returns c =
+returns-then-contains c =
     let n = c.args.name.now in
-    let a : leb 1 (length n) ≡ true = le-leb 1 (length n) c.if-name-lt1.false in
-    let b : leb (length n) NAME ≡ true = le-leb (length n) NAME c.if-name-gt-NAME.false in
+    let r = c.new.ensures in
+    let u = c.if-contains.ensures.cases in
+    let a : leb 1 (length n) ≡ true = grind (arith, nat_tests) in
+    let b : leb (length n) NAME ≡ true = grind (arith, nat_tests) in
     ap (λ (k : ℕ). eqb k (length n)) c.past.ensures ∙ all_past name_byte n ∙ rw (a, b)
+
+pub returns-else-contains : goal.returns-else-contains
+unfolding legal
+returns-else-contains c =
+    let n = c.args.name.now in
+    let r = c.new.ensures in
+    let v = rw (r.start, r.end, r.exhausted) at c.if-contains.ensures.value in
+    let w : within 1 NAME (length n) ≡ false = grind (arith, nat_tests) in
+    c.if-contains.false ∙ rw w

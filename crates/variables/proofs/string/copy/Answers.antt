@@ -7,34 +7,28 @@ use Rattle.layout.proofs.Sound.{sound-of}
 use Rattle.variables.proofs.Spelling.{copies-none, copied-fits, copies-bytes}
 use Rattle.variables.proofs.string.copy.Goals as goal
 
-pub values_of-requires : goal.values_of-requires
-values_of-requires c = (sound-of _ c.requires.undamaged).sizes
+pub offset_bounds-values-value : goal.offset_bounds-values-value
+offset_bounds-values-value c =
+    let z = (sound-of c.args.pool.words.now c.args.pool.tested).sizes in
+    omega (arith, ap length c.values.ensures, length-values _ z, c.requires.held, z.values)
 
-pub offset_bounds-values_of-value : goal.offset_bounds-values_of-value
-offset_bounds-values_of-value c =
-    let z = (sound-of c.args.pool.now c.requires.undamaged).sizes in
-    omega (arith, ap length c.values_of.ensures, length-values _ z, c.requires.placed.held, z.values)
-
-pub bounds-values_of-value : goal.bounds-values_of-value
-bounds-values_of-value c =
-    let z = (sound-of c.args.pool.now c.requires.undamaged).sizes in
-    omega (arith, ap length c.values_of.ensures, length-values _ z, c.requires.placed.held)
+pub bounds-values-value : goal.bounds-values-value
+bounds-values-value c =
+    let z = (sound-of c.args.pool.words.now c.args.pool.tested).sizes in
+    omega (arith, ap length c.values.ensures, length-values _ z, c.requires.held)
 
 pub returns-then-out-long : goal.returns-then-out-long
-returns-then-out-long c = copies-none _ c.values_of.ensures _ _ _ (omega (arith, c.if-out-long.true))
-
-pub bytes_of-requires : goal.bytes_of-requires
-bytes_of-requires c = (sound-of _ c.requires.undamaged).sizes
+returns-then-out-long c = copies-none _ c.values.ensures _ _ _ (omega (arith, c.if-out-long.true))
 
 pub copy_bytes-requires : goal.copy_bytes-requires
 copy_bytes-requires c =
-    let S = sound-of c.args.pool.now c.requires.undamaged in
+    let S = sound-of c.args.pool.words.now c.args.pool.tested in
     record {
-      fits = omega (arith, copied-fits _ c.values_of.ensures _ _ c.args.out.now S c.requires.placed c.bytes_of.ensures);
+      fits = omega (arith, copied-fits _ c.values.ensures _ _ c.args.out.now S c.requires c.bytes.ensures);
       room = omega (arith, c.if-out-long.false);
     }
 
 pub returns : goal.returns
 returns c =
-    let S = sound-of c.args.pool.now c.requires.undamaged in
-    copies-bytes _ c.values_of.ensures _ _ _ S c.requires.placed c.bytes_of.ensures c.if-out-long.false _ c.copy_bytes.ensures
+    let S = sound-of c.args.pool.words.now c.args.pool.tested in
+    copies-bytes _ c.values.ensures _ _ _ S c.requires c.bytes.ensures c.if-out-long.false _ c.copy_bytes.ensures

@@ -7,27 +7,21 @@ use Rattle.layout.proofs.Sound.{sound-of}
 use Rattle.variables.proofs.Strings.{statements-before, values-before, counted-before, length_before, byte-before, byte-few}
 use Rattle.variables.proofs.string.first_byte.Goals as goal
 
-pub values_of-values-requires : goal.values_of-values-requires
-values_of-values-requires c = (sound-of _ c.requires.undamaged).sizes
-
-pub heads_of-requires : goal.heads_of-requires
-heads_of-requires c = (sound-of _ c.requires.undamaged).sizes
-
 pub slice_bounds-sum_bytes-end : goal.slice_bounds-sum_bytes-end
 slice_bounds-sum_bytes-end c =
-    statements-before (sound-of c.args.pool.now c.requires.undamaged) c.heads_of.ensures c.values_of-values.ensures c.requires.spelt
+    statements-before (sound-of c.args.pool.words.now c.args.pool.tested) c.heads.ensures c.values-values.ensures c.requires
 
 pub sum_bytes-before-requires : goal.sum_bytes-before-requires
 sum_bytes-before-requires c =
-    counted-before (sound-of c.args.pool.now c.requires.undamaged) c.heads_of.ensures c.values_of-values.ensures c.requires.spelt
+    counted-before (sound-of c.args.pool.words.now c.args.pool.tested) c.heads.ensures c.values-values.ensures c.requires
 
 pub part_of-requires : goal.part_of-requires
 part_of-requires c =
-    values-before (sound-of c.args.pool.now c.requires.undamaged) c.heads_of.ensures c.values_of-values.ensures c.requires.spelt
+    values-before (sound-of c.args.pool.words.now c.args.pool.tested) c.heads.ensures c.values-values.ensures c.requires
 
 pub sum_lower-inside-requires : goal.sum_lower-inside-requires
 sum_lower-inside-requires c =
-    omega (arith, ap length c.part_of.ensures, length_before (sound-of c.args.pool.now c.requires.undamaged) c.heads_of.ensures c.values_of-values.ensures c.requires.spelt)
+    omega (arith, ap length c.part_of.ensures, length_before (sound-of c.args.pool.words.now c.args.pool.tested) c.heads.ensures c.values-values.ensures c.requires)
 
 pub overflow_add-result : goal.overflow_add-result
 overflow_add-result c =
@@ -36,7 +30,7 @@ overflow_add-result c =
       c.sum_bytes-before.ensures,
       c.sum_lower-inside.ensures,
       ap sum c.part_of.ensures,
-      byte-few (sound-of c.args.pool.now c.requires.undamaged) c.heads_of.ensures c.values_of-values.ensures c.requires.spelt,
+      byte-few (sound-of c.args.pool.words.now c.args.pool.tested) c.heads.ensures c.values-values.ensures c.requires,
     )
 
 pub returns : goal.returns
@@ -46,5 +40,5 @@ returns c =
       c.sum_bytes-before.ensures,
       c.sum_lower-inside.ensures,
       ap sum c.part_of.ensures,
-      byte-before (sound-of c.args.pool.now c.requires.undamaged) c.heads_of.ensures c.values_of-values.ensures c.requires.spelt,
+      byte-before (sound-of c.args.pool.words.now c.args.pool.tested) c.heads.ensures c.values-values.ensures c.requires,
     )
