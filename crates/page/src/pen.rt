@@ -7,10 +7,11 @@ ghost use Rattle.layout.specs.Limits.{WORDS, STATEMENTS, VALUES, LONGEST_LOAD};
 ghost use Rattle.page.specs.Writing.{pen_behind, bare_head, page, opened_on, counting, told_on};
 ghost use Rattle.page.specs.Pens.{Opens, Tells, is_strings};
 
-use layout::limits::{HALF, HEADS_AT, NAMES_AT, VALUES_AT};
+use layout::limits::{HEADS_AT, NAMES_AT, VALUES_AT};
 use names::pack::{NAMEWORDS, pack};
 use statement::head::Operator;
 use statement::values::Kind;
+use words::half::{HALF, upper};
 use words::write::store;
 
 // The next free place of each area, the next free byte of the strings, and the head of the statement opened last.
@@ -48,9 +49,8 @@ pub fn open_statement(m: &mut [u64], pen: Pen, name: &[u8], operator: Operator) 
     Pen {
         heads: pen.heads + 1,
         names: pen.names + NAMEWORDS,
-        values: pen.values,
-        bytes: pen.bytes,
-        head: head,
+        head,
+        ..pen
     }
 }
 
@@ -64,13 +64,7 @@ pub fn tell(m: &mut [u64], pen: Pen, kind: Kind, count: usize) -> Pen
     }
     let head = count_on(pen.head, kind, count);
     store(m, pen.heads - 1, head);
-    Pen {
-        heads: pen.heads,
-        names: pen.names,
-        values: pen.values,
-        bytes: pen.bytes,
-        head: head,
-    }
+    Pen { head, ..pen }
 }
 
 // The head that counts so many values more; the first strings add 2 to its upper number.
@@ -80,14 +74,8 @@ fn count_on(head: u64, kind: Kind, count: usize) -> u64
 {
     let more = head + (count as u64);
     match kind {
-        Kind::Empty => more,
-        Kind::Numbers => more,
-        Kind::Strings => {
-            if head / HALF < 2 {
-                return more + 2 * HALF;
-            }
-            more
-        }
+        Kind::Strings if upper(head) < 2 => more + 2 * HALF,
+        _ => more,
     }
 }
 
@@ -101,7 +89,7 @@ fn bare_head(operator: Operator) -> u64
     }
 }
 
-// The four words of a name.
+// The four words of a name. Each is stored by itself, since what has no room is left out.
 fn write_name(m: &mut [u64], at: usize, name: &[u8])
     requires { at ≤ WORDS }
     ensures { m.new ≡ over at (packed name.now) m.old }

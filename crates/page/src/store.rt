@@ -21,11 +21,8 @@ pub fn store_number(m: &mut [u64], pen: Pen, x: f64) -> Pen
 {
     store(m, pen.values, f64::to_bits(x));
     Pen {
-        heads: pen.heads,
-        names: pen.names,
         values: pen.values + 1,
-        bytes: pen.bytes,
-        head: pen.head,
+        ..pen
     }
 }
 
@@ -37,11 +34,9 @@ pub fn store_string(m: &mut [u64], pen: Pen, line: &[u8], from: usize, n: usize)
     write_string(m, pen.bytes, line, from, n);
     store(m, pen.values, n as u64);
     Pen {
-        heads: pen.heads,
-        names: pen.names,
         values: pen.values + 1,
         bytes: pen.bytes + n,
-        head: pen.head,
+        ..pen
     }
 }
 
@@ -51,11 +46,9 @@ fn write_string(m: &mut [u64], at: usize, line: &[u8], from: usize, n: usize)
     ensures { m.new ≡ inked_in BYTES_AT BYTEWORDS at (undoubled (drop from line.now)) m.old }
 {
     let mut k = from + 1;
-    let mut j = 0;
-    while j < n {
+    for j in 0..n {
         let b = line[k];
         set_byte_in(m, BYTES_AT, BYTEWORDS, at + j, b);
-        j += 1;
         k += 1;
         if b == b'\'' {
             k += 1;

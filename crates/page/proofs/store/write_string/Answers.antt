@@ -1,12 +1,12 @@
 -- `write_string` meets its contract: the bytes written so far and those left in the line are all of the string. Assumes nothing.
-use Prim.Native.Nat.{◌-◌}
 use native.Mathlib.Omega.{arith}
-use mathlib.Core.Path.{refl}
+use mathlib.Core.Path.{refl, ◌∙◌}
 use borrow.Author.Tests.{eq-eqb, ne_eqb}
 use Rattle.plain.specs.Bytes.{QUOTE}
 use Rattle.words.proofs.Each.{words_of}
 use Rattle.page.proofs.Copying.{at_first, reads, one_more, at_last}
 use Rattle.page.proofs.store.write_string.Goals as goal
+use Rattle.page.proofs.store.write_string.Goals.{then-b-eq39, else-b-eq39}
 
 pub overflow_add-k : goal.overflow_add-k
 overflow_add-k c = omega (arith, c.requires.2.inside)
@@ -35,17 +35,15 @@ pub overflow_add-k-then-b-eq39 : goal.overflow_add-k-then-b-eq39
 overflow_add-k-then-b-eq39 c =
     omega (arith, reads _ _ _ _ _ _ _ c.loop-j.invariant (omega (arith, c.loop-j-test.true, c.requires.2.bytes)))
 
-pub loop-j-preserved-then-b-eq39 : goal.loop-j-preserved-then-b-eq39
-loop-j-preserved-then-b-eq39 c =
-    let p = c.requires in
-    one_more _ _ _ _ _ _ _ c.loop-j.invariant (omega (arith, c.loop-j-test.true, p.2.bytes)) (omega (arith, p.0))
-    _ refl (omega (arith, c.shared_slice_known-in-loop-j-1.given c.loop-j.k)) _ (rw (eq-eqb _ QUOTE c.if-b-eq39.true) (omega arith)) _ c.set_byte_in.ensures c.set_byte_in.auto.m
-
 pub loop-j-preserved : goal.loop-j-preserved
 loop-j-preserved c =
     let p = c.requires in
-    one_more _ _ _ _ _ _ _ c.loop-j.invariant (omega (arith, c.loop-j-test.true, p.2.bytes)) (omega (arith, p.0))
-    _ refl (omega (arith, c.shared_slice_known-in-loop-j-1.given c.loop-j.k)) _ (rw (ne_eqb _ QUOTE c.if-b-eq39.false) (omega arith)) _ c.set_byte_in.ensures c.set_byte_in.auto.m
+    elim c.if-b-eq39.branch [
+      | then-b-eq39 w ↦ one_more _ _ _ _ _ _ _ c.loop-j.invariant (omega (arith, c.loop-j-test.true, p.2.bytes)) (omega (arith, p.0))
+          _ refl (omega (arith, c.type_inv.line c.loop-j.k)) _ (w.k-is ∙ rw (eq-eqb _ QUOTE w.if-b-eq39.true) (omega arith)) _ c.set_byte_in.ensures c.set_byte_in.auto.m
+      | else-b-eq39 w ↦ one_more _ _ _ _ _ _ _ c.loop-j.invariant (omega (arith, c.loop-j-test.true, p.2.bytes)) (omega (arith, p.0))
+          _ refl (omega (arith, c.type_inv.line c.loop-j.k)) _ (w.k-is ∙ rw (ne_eqb _ QUOTE w.if-b-eq39.false) (omega arith)) _ c.set_byte_in.ensures c.set_byte_in.auto.m
+    ]
 
 pub shape_of-m : goal.shape_of-m
 shape_of-m c = c.loop-j.invariant.long
