@@ -1,28 +1,25 @@
 -- What a line gives to the statement opened last is written as it is read: a list's values, or one alone. Assumes nothing.
 use Prim.Native.Nat.{ℕ, ◌+◌}
 use native.Mathlib.Omega.{arith}
-use mathlib.Core.Path.{◌≡◌, ap, subst, ◌∙◌}
+use mathlib.Core.Path.{◌≡◌, refl, ap, subst, ◌∙◌}
 use mathlib.Core.Bool.{Bool, true, false}
 use mathlib.Core.List.{List, [], ◌∷◌}
 use lib.Dec.{ltb}
-use lib.Ieee.{Float}
 use lib.ListN.{length, drop}
-use Rattle.std.specs.Prelude.{if◌then◌else◌}
+use Rattle.std.specs.Prelude.{Option, Some, None, Result, Ok, Err, if◌then◌else◌}
 use Rattle.plain.specs.Bytes.{OPEN}
 use Rattle.plain.specs.Runs.{past}
 use Rattle.value.specs.Classes.{blank, stands}
 use Rattle.value.specs.Strings.{undoubled}
-use Rattle.value.specs.Value.{Value, number, string, value_at}
-use Rattle.statement.specs.Values.{items, given, wrong, rest, list_end, listed, alone, given_at}
-use Rattle.value.specs.declared.faults.Fault.{Fault}
+use Rattle.value.specs.Value.{Value, number, string, value_of, value_at}
+use Rattle.statement.specs.Values.{kind_of, items, given, wrong, rest, list_end, listed, alone, given_at}
 use Rattle.value.specs.declared.faults.Fault.TheVariants as F
 use Rattle.statement.specs.declared.values.Reader.{Reader}
 use Rattle.statement.specs.declared.values.Reader.TheVariants as R
 use Rattle.statement.specs.declared.values.Counted.{Counted}
 use Rattle.statement.specs.declared.values.Kind.{Kind}
 use Rattle.statement.specs.declared.values.Kind.TheVariants as K
-use Rattle.statement.specs.declared.values.Stop.{Stop}
-use Rattle.statement.specs.declared.values.Stop.TheVariants as S
+use Rattle.value.specs.declared.faults.LineFault.{LineFault}
 use Rattle.value.specs.declared.Word.{Word}
 use Rattle.value.specs.declared.Word.TheVariants as W
 use Rattle.statement.proofs.Bounds.{few-items}
@@ -49,12 +46,12 @@ rest-given ws line i s vs = by (ltb (past blank line i) (length line))
     by true e = let z : ◌≡◌ {A = ℕ} 0 1 = cc in absurd (omega arith)
     by false e = record { values = cc; reader = cc }
 
-end-given : (kind : Kind) (ws : List Value) (line : List ℕ) (t : Stop) (s : Reader) (vs : List Value) → list_end kind ws line t ≡ given s vs → Ends ws vs (after_list kind t) s
-end-given kind ws line S.End s vs e = record { values = cc; reader = cc }
-end-given kind ws line (S.Fault q k) s vs e = let z : ◌≡◌ {A = ℕ} 0 1 = cc in absurd (omega arith)
-end-given K.Empty ws line (S.Close k) s vs e = let z : ◌≡◌ {A = ℕ} 0 1 = cc in absurd (omega arith)
-end-given K.Numbers ws line (S.Close k) s vs e = rest-given ws line (k + 1) s vs e
-end-given K.Strings ws line (S.Close k) s vs e = rest-given ws line (k + 1) s vs e
+end-given : (kind : Kind) (ws : List Value) (line : List ℕ) (t : Result (Option ℕ) LineFault) (s : Reader) (vs : List Value) → list_end kind ws line t ≡ given s vs → Ends ws vs (after_list kind t) s
+end-given kind ws line (Ok None) s vs e = record { values = cc; reader = cc }
+end-given kind ws line (Err q) s vs e = let z : ◌≡◌ {A = ℕ} 0 1 = cc in absurd (omega arith)
+end-given K.Empty ws line (Ok (Some k)) s vs e = let z : ◌≡◌ {A = ℕ} 0 1 = cc in absurd (omega arith)
+end-given K.Numbers ws line (Ok (Some k)) s vs e = rest-given ws line (k + 1) s vs e
+end-given K.Strings ws line (Ok (Some k)) s vs e = rest-given ws line (k + 1) s vs e
 
 module _ (kind : Kind) (line : List ℕ) (i : ℕ) (s : Reader) (vs : List Value) where
   list-given : listed kind line i ≡ given s vs → Ends (items kind line i).values vs (after_list (items kind line i).kind (items kind line i).stop) s
@@ -70,16 +67,21 @@ pub given-one : (line : List ℕ) (i : ℕ) (s : Reader) (vs : List Value) → g
 unfolding given_at
 given-one line i s vs e = by (stands OPEN line i) (value_at line i) e
   where
-    by : (b : Bool) (w : Word) → (if b then listed K.Empty line (i + 1) else alone line w) ≡ given s vs → OneKind vs
+    by : (b : Bool) (w : Result Word LineFault) → (if b then listed K.Empty line (i + 1) else alone line w) ≡ given s vs → OneKind vs
     by true w e = list-one K.Empty line (i + 1) s vs e
-    by false (W.Number x k) e = subst OneKind (rest-given (number x ∷ []) line k s vs e).values (one_value (number x))
-    by false (W.String j n k) e = subst OneKind (rest-given (string (undoubled (drop j line)) ∷ []) line k s vs e).values (one_value (string (undoubled (drop j line))))
-    by false (W.Fault q k) e = let z : ◌≡◌ {A = ℕ} 0 1 = cc in absurd (omega arith)
+    by false (Ok (W.Number x k)) e = subst OneKind (rest-given (number x ∷ []) line k s vs e).values (one_value (number x))
+    by false (Ok (W.String j n k)) e = subst OneKind (rest-given (string (undoubled (drop j line)) ∷ []) line k s vs e).values (one_value (string (undoubled (drop j line))))
+    by false (Err q) e = let z : ◌≡◌ {A = ℕ} 0 1 = cc in absurd (omega arith)
 
 -- ---- what is stored can be told
 
 pub ready-stretches : (line : List ℕ) (pen : Pen) → Ready pen line → Stretches pen
 ready-stretches line pen r = record { values = omega (arith, r.storable.values); bytes = omega (arith, r.storable.bytes) }
+
+-- a value that is stored leaves the heads
+pub stored-head : (v : Value) (p : Page) → ((stored_on v p).pen.heads ≡ p.pen.heads) × ((stored_on v p).pen.head ≡ p.pen.head)
+stored-head (number x) p = (refl, refl)
+stored-head (string s) p = (refl, refl)
 
 pub one-tells : (line : List ℕ) (pen pen' : Pen) (m : List ℕ) (p : Page) → Ready pen line → page m pen' ≡ p → p.pen.heads ≡ pen.heads → p.pen.head ≡ pen.head → Tells pen' 1
 one-tells line pen pen' m p r e h k = record {
@@ -129,17 +131,12 @@ module _ (line : List ℕ) (pen told : Pen) (before mid after : List ℕ) where
       let g = rest-given (v ∷ []) line k s vs (f s vs e) in
       record { left = p ∙ ap (told_on (any_string (v ∷ [])) 1) w ∙ ap (λ (us : List Value). given_on us (page before pen)) g.values; reader = g.reader }
 
-  pub number-turns : (stored : Pen) (i k : ℕ) (x : Float) → stands OPEN line i ≡ false → value_at line i ≡ W.Number x k
-      → page mid stored ≡ stored_on (number x) (page before pen) → page after told ≡ told_on false 1 (page mid stored)
+  pub word-turns : (stored : Pen) (i : ℕ) (w : Word) → stands OPEN line i ≡ false → value_at line i ≡ Ok w
+      → page mid stored ≡ stored_on (value_of line w) (page before pen) → page after told ≡ told_on (is_strings (kind_of w)) 1 (page mid stored)
       → Gives (given_at line i) (page before pen) after (record { pen = told; reader = R.Data })
   unfolding given_at
-  number-turns stored i k x o v w p = alone-turns stored i (number x) k (λ s vs e. rw (o, v) at e) w p
-
-  pub string-turns : (stored : Pen) (i j n k : ℕ) → stands OPEN line i ≡ false → value_at line i ≡ W.String j n k
-      → page mid stored ≡ stored_on (string (undoubled (drop j line))) (page before pen) → page after told ≡ told_on true 1 (page mid stored)
-      → Gives (given_at line i) (page before pen) after (record { pen = told; reader = R.Data })
-  unfolding given_at
-  string-turns stored i j n k o v w p = alone-turns stored i (string (undoubled (drop j line))) k (λ s vs e. rw (o, v) at e) w p
+  word-turns stored i (W.Number x k) o v w p = alone-turns stored i (number x) k (λ s vs e. rw (o, v) at e) w p
+  word-turns stored i (W.String j n k) o v w p = alone-turns stored i (string (undoubled (drop j line))) k (λ s vs e. rw (o, v) at e) w p
 
 -- the values of a line that has a `(`
 pub at_bracket : (line : List ℕ) (i : ℕ) (s : Reader) (vs : List Value) → stands OPEN line i ≡ true → given_at line i ≡ given s vs → listed K.Empty line (i + 1) ≡ given s vs
@@ -147,10 +144,10 @@ unfolding given_at
 at_bracket line i s vs o e = rw o at e
 
 -- no value stands there
-pub no_value : {X : Type 0} (line : List ℕ) (i : ℕ) (q : Fault) (k : ℕ) (s : Reader) (vs : List Value)
-    → stands OPEN line i ≡ false → value_at line i ≡ W.Fault q k → given_at line i ≡ given s vs → X
+pub no_value : {X : Type 0} (line : List ℕ) (i : ℕ) (f : LineFault) (s : Reader) (vs : List Value)
+    → stands OPEN line i ≡ false → value_at line i ≡ Err f → given_at line i ≡ given s vs → X
 unfolding given_at
-no_value line i q k s vs o v e =
-    let a : wrong q k ≡ given s vs = rw (o, v) at e in
+no_value line i f s vs o v e =
+    let a : wrong f.fault f.place ≡ given s vs = rw (o, v) at e in
     let z : ◌≡◌ {A = ℕ} 0 1 = cc in
     absurd (omega arith)

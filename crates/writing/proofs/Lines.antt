@@ -6,7 +6,7 @@ use mathlib.Core.Bool.{Bool, true, false}
 use mathlib.Core.List.{List, [], ◌∷◌, ◌++◌, map}
 use lib.Dec.{ltb}
 use lib.ListN.{length, take, drop}
-use Rattle.std.specs.Prelude.{if◌then◌else◌}
+use Rattle.std.specs.Prelude.{Some, Ok, if◌then◌else◌}
 use Rattle.plain.specs.Runs.{past}
 use Rattle.plain.specs.Bytes.{fair}
 use Rattle.text.specs.Delimiters.{mark_of}
@@ -22,8 +22,7 @@ use Rattle.statement.specs.declared.values.Reader.{Reader}
 use Rattle.statement.specs.declared.values.Reader.TheVariants as R
 use Rattle.text.specs.declared.delimiters.Mark.TheVariants as M
 use Rattle.statement.specs.declared.values.Kind.{Kind}
-use Rattle.statement.specs.declared.head.Head.{Head}
-use Rattle.statement.specs.declared.head.Head.TheVariants as H
+use Rattle.statement.specs.declared.head.Named.{Named}
 use Rattle.statement.specs.declared.head.Operator.{Operator}
 use Rattle.words.specs.Over.{over}
 use Rattle.words.specs.Halves.{upper}
@@ -90,16 +89,9 @@ module _ (line : List ℕ) (r s : Reader) (es : List Event) where
   pub plain-mark : mark_of line ≡ M.Plain → answered r line ≡ next s es → plain r line ≡ next s es
   plain-mark q e = rw q at (answered-next r line s es e)
 
--- a line of blanks adds nothing
-pub blank-next : (line : List ℕ) (h : Head) (s : Reader) (es : List Event) → h ≡ H.Blank → stated line h ≡ next s es → next R.Data [] ≡ next s es
-blank-next line h s es q e = rw q at e
-
 -- a faulty line is not admitted
-pub no-head : {X : Type 0} (line : List ℕ) (h : Head) (f : Fault) (k : ℕ) (s : Reader) (es : List Event) → h ≡ H.Fault f k → stated line h ≡ next s es → X
-no-head line h f k s es q e =
-    let a : fault f k ≡ next s es = rw q at e in
-    let z : ◌≡◌ {A = ℕ} 0 1 = cc in
-    absurd (omega arith)
+pub not-faulty : {X : Type 0} (q : Fault) (k : ℕ) (s : Reader) (es : List Event) → fault q k ≡ next s es → X
+not-faulty q k s es e = let z : ◌≡◌ {A = ℕ} 0 1 = cc in absurd (omega arith)
 
 -- ---- how it is written
 
@@ -136,15 +128,15 @@ module _ (m : List ℕ) (pen : Pen) (s : Reader) (es : List Event) where
         record { left = t.left ∙ sym (values-written o.strings a.values (page m pen) h o.alike) ∙ rw a.events; reader = t.reader }
 
     -- a statement is opened, and values are given to it
-    pub statement-written : (h : Head) (n e : ℕ) (o : Operator) (i : ℕ) (mid : List ℕ) (begun : Pen) (after : List ℕ) (r : Turn)
-        → h ≡ H.Named n e o i
-        → page mid begun ≡ opened_on (take (e - n) (drop n line)) o (page m pen)
-        → Gives (given_at line i) (page mid begun) after r
-        → stated line h ≡ next s es → Turns (written_on es (page m pen)) s after r
+    pub statement-written : (h : Named) (mid : List ℕ) (begun : Pen) (after : List ℕ) (r : Turn)
+        → page mid begun ≡ opened_on (take (h.end - h.start) (drop h.start line)) h.operator (page m pen)
+        → Gives (given_at line h.at) (page mid begun) after r
+        → stated line (Ok (Some h)) ≡ next s es → Turns (written_on es (page m pen)) s after r
     unfolding written_on opened_on
-    statement-written h n e o i mid begun after r q p f u =
-        let name = take (e - n) (drop n line) in
-        let v : adding (opened name o ∷ []) (given_at line i) ≡ next s es = rw q at u in
+    statement-written h mid begun after r p f v =
+        let name = take (h.end - h.start) (drop h.start line) in
+        let o = h.operator in
+        let i = h.at in
         let a = adding-next (opened name o ∷ []) (given_at line i) s es v in
         let t = f s a.values a.given in
         let k = given-one line i s a.values a.given in

@@ -4,7 +4,10 @@ use mathlib.Core.Path.{◌≡◌, refl, sym, ap, ◌∙◌}
 use mathlib.Core.Bool.{Bool, true, false, false≢true}
 use mathlib.Core.List.{List, [], ◌∷◌}
 use lib.ListN.{length}
+use Rattle.std.specs.Prelude.{Result, Ok, Err}
 use Rattle.value.specs.Value.{Value, number, string}
+use Rattle.value.specs.declared.faults.LineFault.{LineFault}
+use Rattle.value.specs.declared.Word.TheVariants as W
 use Rattle.statement.specs.Values.{item, further, items_up_to}
 use Rattle.statement.specs.declared.values.Item.{Item}
 use Rattle.statement.specs.declared.values.Item.TheVariants as I
@@ -57,10 +60,10 @@ unfolding items_up_to
 taking-items zero line j i = refl
 taking-items (suc n) line j i = by (item j line i) refl (taking-items n line)
   where
-    by : (m : Item) → item j line i ≡ m → ((d : Kind) (k : ℕ) → Taking d (items_up_to n line d k).values (items_up_to n line d k).kind)
+    by : (m : Result Item LineFault) → item j line i ≡ m → ((d : Kind) (k : ℕ) → Taking d (items_up_to n line d k).values (items_up_to n line d k).kind)
         → Taking j (further j line m (items_up_to n line)).values (further j line m (items_up_to n line)).kind
-    by I.End e f = refl
-    by (I.Close k) e f = refl
-    by (I.Fault q k) e f = refl
-    by (I.Number x k) e f = ((item-number j line i x k e).0, f K.Numbers k)
-    by (I.String s l k) e f = ((item-string j line i s l k e).0, f K.Strings k)
+    by (Ok I.End) e f = refl
+    by (Ok (I.Close k)) e f = refl
+    by (Err q) e f = refl
+    by (Ok (I.Value (W.Number x k))) e f = ((item-number j line i x k e).0, f K.Numbers k)
+    by (Ok (I.Value (W.String s l k))) e f = ((item-string j line i s l k e).0, f K.Strings k)

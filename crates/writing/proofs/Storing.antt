@@ -5,20 +5,25 @@ use native.Mathlib.Omega.{arith}
 use mathlib.Core.Path.{◌≡◌, refl, sym, ap, subst, ◌∙◌}
 use mathlib.Core.List.{List}
 use lib.ListN.{length}
+use Rattle.std.specs.Prelude.{Option, None, Result, Ok}
 use Rattle.value.specs.Strings.{STRING}
-use Rattle.value.specs.Value.{Value, bytes_in}
+use Rattle.value.specs.Value.{Value, bytes_in, long_of, value_at}
 use Rattle.statement.specs.Values.{bytes_in_all, item, Items, ended, further, items_up_to, items, tally}
 use Rattle.statement.specs.Values as values
 use Rattle.statement.specs.declared.values.Item.{Item}
 use Rattle.statement.specs.declared.values.Kind.{Kind}
-use Rattle.statement.specs.declared.values.Stop.{Stop}
-use Rattle.statement.specs.declared.values.Stop.TheVariants as S
-use Rattle.value.proofs.Found.{StringRead}
+use Rattle.value.specs.declared.faults.LineFault.{LineFault}
+use Rattle.value.specs.declared.Word.{Word}
+use Rattle.value.specs.declared.Word.TheVariants as W
+use Rattle.statement.specs.declared.values.Item.TheVariants as I
+use Rattle.decimal.proofs.Bounded.{reading-no-nan}
+use Rattle.value.proofs.Found.{StringRead, value-number, value-string}
+use Rattle.statement.proofs.Found.{item-number, item-string}
 use Rattle.statement.proofs.Items.{with_items, none_yet, turn}
 use Rattle.layout.specs.Limits.{BYTES_AT, BYTES, LONGEST_LOAD}
 use Rattle.page.specs.Writing.{Page, page, stored_on, stored_all}
 use Rattle.page.specs.Pens.{Stretches, Quoted}
-use Rattle.writing.specs.Pens.{Storable, Stores, stopped}
+use Rattle.writing.specs.Pens.{Storable, Found, Stores, stopped}
 use Rattle.page.specs.declared.pen.Pen.{Pen}
 use Rattle.writing.specs.declared.give.Stored.{Stored}
 use Rattle.page.proofs.Pages.{stored-values, stored_bytes}
@@ -27,15 +32,29 @@ use Rattle.page.proofs.Pages.{stored-values, stored_bytes}
 pub quoted : (line : List ℕ) (s n k : ℕ) → StringRead line s n k → Quoted line s n
 quoted line s n k r = record { inside = omega (arith, r.takes, r.stays); bytes = r.bytes; short = r.short }
 
+-- a value that is read can be stored
+pub found-value : (line : List ℕ) (i : ℕ) (w : Word) → value_at line i ≡ Ok w → Found line w
+found-value line i (W.Number x k) e = reading-no-nan _ x (value-number line i x k e).1.read
+found-value line i (W.String s n k) e = quoted line s n k (value-string line i s n k e).2
+
+-- and so can one of a list, which has 60 bytes at most
+pub found-item : (kind : Kind) (line : List ℕ) (i : ℕ) (w : Word) → item kind line i ≡ Ok (I.Value w) → Found line w
+found-item kind line i (W.Number x k) e = reading-no-nan _ x (item-number kind line i x k e).1.read
+found-item kind line i (W.String s n k) e = quoted line s n k (item-string kind line i s n k e).2
+
+pub short-item : (kind : Kind) (line : List ℕ) (i : ℕ) (w : Word) → item kind line i ≡ Ok (I.Value w) → long_of w ≤ STRING
+short-item kind line i (W.Number x k) e = omega arith
+short-item kind line i (W.String s n k) e = (item-string kind line i s n k e).2.short
+
 -- ---- the items that are left, by the next one
 
-pub none_left : (line : List ℕ) (kind : Kind) (i left : ℕ) → left ≡ 0 → items_up_to left line kind i ≡ ended kind S.End
+pub none_left : (line : List ℕ) (kind : Kind) (i left : ℕ) → left ≡ 0 → items_up_to left line kind i ≡ ended kind (Ok None)
 unfolding items_up_to
 none_left line kind i left e = rw e
 
-pub next-left : (line : List ℕ) (kind : Kind) (i left : ℕ) → 0 < left → (next : Item) → next ≡ item kind line i → (known : Item) → next ≡ known
+pub next-left : (line : List ℕ) (kind : Kind) (i left : ℕ) → 0 < left → (next : Result Item LineFault) → next ≡ item kind line i → (known : Result Item LineFault) → next ≡ known
     → items_up_to left line kind i ≡ further kind line known (items_up_to (left - 1) line)
-next-left line kind i left h next e known q = turn line kind i left h ∙ ap (λ (m : Item). further kind line m (items_up_to (left - 1) line)) (sym e ∙ q)
+next-left line kind i left h next e known q = turn line kind i left h ∙ ap (λ (m : Result Item LineFault). further kind line m (items_up_to (left - 1) line)) (sym e ∙ q)
 
 -- ---- the loop
 
@@ -66,7 +85,7 @@ module _ (first : Kind) (line : List ℕ) (from : ℕ) where
     pub stretches : length line ≤ LONGEST_LOAD → Stretches pen
     stretches h = record { values = omega (arith, f.values, f.few); bytes = omega (arith, f.strings, f.few) }
 
-    pub at_last : (s : Stop) → items_up_to left line kind i ≡ ended kind s → (r : Stored) → r ≡ stopped pen kind given bytes s → Stores first line from start r m
+    pub at_last : (s : Result (Option ℕ) LineFault) → items_up_to left line kind i ≡ ended kind s → (r : Stored) → r ≡ stopped pen kind given bytes s → Stores first line from start r m
     unfolding stored_all
     at_last s e r q =
         let z : with_items given bytes (ended kind s) ≡ record { kind = kind; given = given; bytes = bytes; stop = s } = rw (add-zero given, add-zero bytes) in

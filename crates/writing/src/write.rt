@@ -9,12 +9,12 @@ ghost use Rattle.writing.specs.Pens.{Admits, Roomy, Writes};
 
 use crate::give::{Turn, give_list, give_values};
 use page::pen::{Pen, open_statement};
-use statement::head::{Head, read_head};
+use statement::head::read_head;
 use statement::values::Reader;
 use text::delimiters::{Mark, read_mark};
 use text::lines::cut_line;
 
-// All lines of an admitted text.
+// All lines of an admitted text. A `while`, for its place goes on by a line.
 pub fn write_text(m: &mut [u64], pen: Pen, text: &[u8]) -> Pen
     requires { (length m.old ≡ WORDS) × (Admits text.now pen) }
     ensures { page m.new result ≡ written_on (added (read_text text.now)) (page m.old pen) }
@@ -24,12 +24,9 @@ pub fn write_text(m: &mut [u64], pen: Pen, text: &[u8]) -> Pen
     let mut reader = Reader::Text;
     while at < text.len() {
         let cut = cut_line(text, at);
-        let end = cut.end;
-        let turn = write_line(m, last, reader, &text[at..end]);
-        let moved = turn.pen;
-        let after = turn.reader;
-        last = moved;
-        reader = after;
+        let turn = write_line(m, last, reader, &text[at..cut.end]);
+        last = turn.pen;
+        reader = turn.reader;
         at = cut.next;
     }
     last
@@ -43,11 +40,11 @@ pub fn write_line(m: &mut [u64], pen: Pen, reader: Reader, line: &[u8]) -> Turn
     let mark = read_mark(line);
     match mark {
         Mark::Data => Turn {
-            pen: pen,
+            pen,
             reader: Reader::Data,
         },
         Mark::Text => Turn {
-            pen: pen,
+            pen,
             reader: Reader::Text,
         },
         Mark::Plain => write_plain(m, pen, reader, line),
@@ -61,7 +58,7 @@ fn write_plain(m: &mut [u64], pen: Pen, reader: Reader, line: &[u8]) -> Turn
 {
     match reader {
         Reader::Text => Turn {
-            pen: pen,
+            pen,
             reader: Reader::Text,
         },
         Reader::Data => write_statement(m, pen, line),
@@ -74,18 +71,17 @@ fn write_statement(m: &mut [u64], pen: Pen, line: &[u8]) -> Turn
     requires { (length m.old ≡ WORDS) × (Roomy pen line.now) }
     ensures { Writes (stated line.now (head line.now)) (page m.old pen) m.new result }
 {
-    let head = read_head(line);
-    match head {
-        Head::Blank => Turn {
-            pen: pen,
+    match read_head(line) {
+        Ok(Some(head)) => {
+            let opened = open_statement(m, pen, &line[head.start..head.end], head.operator);
+            give_values(m, opened, line, head.at)
+        }
+        Ok(None) => Turn {
+            pen,
             reader: Reader::Data,
         },
-        Head::Named(start, end, operator, at) => {
-            let opened = open_statement(m, pen, &line[start..end], operator);
-            give_values(m, opened, line, at)
-        }
-        Head::Fault(_, _) => Turn {
-            pen: pen,
+        Err(_) => Turn {
+            pen,
             reader: Reader::Data,
         },
     }

@@ -1,72 +1,58 @@
 -- `store_items` meets its contract: what is left to store onto this page is what was to be stored onto the first. Assumes nothing.
-use Prim.Native.Nat.{ℕ, ◌+◌}
-use native.Mathlib.Nat.{add-zero}
+use Prim.Native.Nat.{ℕ, ◌+◌, ◌-◌, ◌<◌}
 use native.Mathlib.Omega.{arith}
-use mathlib.Core.Path.{sym, ap, ◌∙◌}
-use Rattle.decimal.proofs.Bounded.{reading-no-nan}
-use Rattle.value.specs.Value.{number, string}
+use mathlib.Core.Path.{◌≡◌, sym, ap, ◌∙◌}
+use lib.ListN.{length}
+use Rattle.std.specs.Prelude.{Ok, Err}
+use Rattle.value.specs.Value.{value_of}
 use Rattle.statement.specs.declared.values.Item.TheVariants as I
-use Rattle.statement.specs.declared.values.Kind.TheVariants as K
-use Rattle.statement.proofs.Found.{item-number, item-string}
-use Rattle.writing.proofs.Storing.{quoted, none_left, next-left, at_first, stretches, at_last, one_more}
+use Rattle.statement.proofs.Found.{item-long}
+use Rattle.writing.proofs.Storing.{found-item, short-item, none_left, next-left, stretches, at_last, one_more}
 use Rattle.writing.proofs.give.store_items.Goals as goal
 
-pub loop-left-init : goal.loop-left-init
-loop-left-init c = at_first _ _ _ _ _ c.requires.1
+pub returns-in-Ok-End : goal.returns-in-Ok-End
+returns-in-Ok-End c =
+    at_last _ _ _ _ _ _ _ _ _ _ _ c.loop-given.invariant _
+    (next-left _ _ _ _ (omega (arith, c.loop-given-test.true)) _ c.next_item.ensures (Ok I.End) (rw c.in-Ok-End.field-0-is at c.in-Ok-End.is)) _ c.stopped.ensures
 
-pub shape_of-m-in-End : goal.shape_of-m-in-End
-shape_of-m-in-End c = c.loop-left.invariant.long
+pub returns-in-Ok-Close : goal.returns-in-Ok-Close
+returns-in-Ok-Close c =
+    at_last _ _ _ _ _ _ _ _ _ _ _ c.loop-given.invariant _
+    (next-left _ _ _ _ (omega (arith, c.loop-given-test.true)) _ c.next_item.ensures (Ok (I.Close _)) (rw c.in-Ok-Close.field-0-is at c.in-Ok-Close.is)) _ c.stopped-in-Ok-Close.ensures
 
-pub returns-in-End : goal.returns-in-End
-returns-in-End c =
-    at_last _ _ _ _ _ _ _ _ _ _ _ c.loop-left.invariant _ (next-left _ _ _ _ c.loop-left-test.true _ c.next_item-item.ensures I.End c.in-End.is) _ c.stopped.ensures
+pub returns-in-Err : goal.returns-in-Err
+returns-in-Err c =
+    at_last _ _ _ _ _ _ _ _ _ _ _ c.loop-given.invariant _
+    (next-left _ _ _ _ (omega (arith, c.loop-given-test.true)) _ c.next_item.ensures (Err _) c.in-Err.is) _ c.stopped-in-Err.ensures
 
-pub shape_of-m-in-Close : goal.shape_of-m-in-Close
-shape_of-m-in-Close c = c.loop-left.invariant.long
-
-pub returns-in-Close : goal.returns-in-Close
-returns-in-Close c =
-    at_last _ _ _ _ _ _ _ _ _ _ _ c.loop-left.invariant _ (next-left _ _ _ _ c.loop-left-test.true _ c.next_item-item.ensures (I.Close _) c.in-Close.is) _ c.stopped-in-Close.ensures
-
-pub shape_of-m-in-Fault : goal.shape_of-m-in-Fault
-shape_of-m-in-Fault c = c.loop-left.invariant.long
-
-pub returns-in-Fault : goal.returns-in-Fault
-returns-in-Fault c =
-    at_last _ _ _ _ _ _ _ _ _ _ _ c.loop-left.invariant _ (next-left _ _ _ _ c.loop-left-test.true _ c.next_item-item.ensures (I.Fault _ _) c.in-Fault.is) _ c.stopped-in-Fault.ensures
-
-pub store_number-last-requires : goal.store_number-last-requires
-store_number-last-requires c = (
-  stretches _ _ _ _ _ _ _ _ _ _ _ c.loop-left.invariant c.requires.1.long,
-  reading-no-nan _ _ (item-number _ _ _ _ _ (sym c.next_item-item.ensures ∙ c.in-Number.is)).1.read,
-)
-
-pub loop-left-preserved-in-Number : goal.loop-left-preserved-in-Number
-loop-left-preserved-in-Number c =
-    let t = c.loop-left-test.true in
-    one_more _ _ _ _ _ _ _ _ _ _ _ c.loop-left.invariant (number _) K.Numbers _ t (next-left _ _ _ _ t _ c.next_item-item.ensures (I.Number _ _) c.in-Number.is)
-    _ (sym (add-zero _)) (omega arith) _ _ c.store_number-last.ensures c.store_number-last.auto.m
-
-pub store_string-last-requires : goal.store_string-last-requires
-store_string-last-requires c =
+pub store_word-last-requires : goal.store_word-last-requires
+store_word-last-requires c =
     let p = c.requires in
-    (c.loop-left.invariant.long ∙ p.0, stretches _ _ _ _ _ _ _ _ _ _ _ c.loop-left.invariant p.1.long, quoted _ _ _ _ (item-string _ _ _ _ _ _ (sym c.next_item-item.ensures ∙ c.in-String.is)).2)
+    let q = rw c.in-Ok-Value.field-0-is at c.in-Ok-Value.is in
+    (c.loop-given.invariant.long ∙ p.0, stretches _ _ _ _ _ _ _ _ _ _ _ c.loop-given.invariant p.1.long, found-item _ _ _ _ (sym c.next_item.ensures ∙ q))
 
 pub overflow_add-bytes : goal.overflow_add-bytes
 overflow_add-bytes c =
-    let r = (item-string _ _ _ _ _ _ (sym c.next_item-item.ensures ∙ c.in-String.is)).2 in
-    omega (arith, c.loop-left.invariant.short, c.loop-left.invariant.few, c.requires.1.long, r.short)
+    let q = rw c.in-Ok-Value.field-0-is at c.in-Ok-Value.is in
+    omega (arith, c.loop-given.invariant.short, c.loop-given.invariant.few, c.requires.1.long, c.long-bytes.ensures, short-item _ _ _ _ (sym c.next_item.ensures ∙ q))
 
-pub loop-left-preserved : goal.loop-left-preserved
-loop-left-preserved c =
-    let t = c.loop-left-test.true in
-    let q = c.in-String.is in
-    let r = (item-string _ _ _ _ _ _ (sym c.next_item-item.ensures ∙ q)).2 in
-    one_more _ _ _ _ _ _ _ _ _ _ _ c.loop-left.invariant (string _) K.Strings _ t (next-left _ _ _ _ t _ c.next_item-item.ensures (I.String _ _ _) q)
-    _ (ap (λ (b : ℕ). c.loop-left.bytes + b) (sym r.bytes)) (omega (arith, r.bytes, r.short)) _ _ c.store_string-last.ensures c.store_string-last.auto.m
-
-pub shape_of-m : goal.shape_of-m
-shape_of-m c = c.loop-left.invariant.long
+pub loop-given-preserved : goal.loop-given-preserved
+loop-given-preserved c =
+    let l = c.loop-given in
+    let line = c.args.line.now in
+    let n = length line in
+    let q = rw c.in-Ok-Value.field-0-is at c.in-Ok-Value.is in
+    let e = sym c.next_item.ensures ∙ q in
+    let b = item-long _ _ _ _ e in
+    let z : n - (l.given + 1) ≡ n - l.given - 1 = omega arith in
+    let t : 0 < n - l.given = omega (arith, c.loop-given-test.true) in
+    rw (z, c.kind_of-kind.ensures, c.end-i.ensures)
+    (one_more _ _ _ _ _ _ _ _ _ _ _ c.loop-given.invariant (value_of line c.in-Ok-Value.word) _ _ t (next-left _ _ _ _ t _ c.next_item.ensures (Ok (I.Value _)) q)
+    _ (ap (λ (k : ℕ). l.bytes + k) (c.long-bytes.ensures ∙ sym b)) (omega (arith, b, short-item _ _ _ _ e)) _ _ c.store_word-last.ensures c.store_word-last.auto.m)
 
 pub returns : goal.returns
-returns c = at_last _ _ _ _ _ _ _ _ _ _ _ c.loop-left.invariant _ (none_left _ _ _ _ (omega (arith, c.loop-left-test.false))) _ c.stopped-2.ensures
+returns c =
+    let l = c.loop-given in
+    let n = length c.args.line.now in
+    let z : l.given ≡ n = omega (arith, c.loop-given-test.false) in
+    at_last _ _ _ _ _ _ _ l.given _ _ _ c.loop-given.invariant _ (none_left _ _ _ (n - l.given) (omega arith)) _ (rw z c.stopped-2.ensures)

@@ -2,22 +2,22 @@
 use native.Mathlib.Omega.{arith}
 use mathlib.Core.Path.{sym, ◌∙◌}
 use Rattle.writing.proofs.Heads.{head-stands}
-use Rattle.writing.proofs.Lines.{blank-next, no-head, opened-ready, nothing-turns, statement-written}
+use Rattle.writing.proofs.Lines.{not-faulty, opened-ready, nothing-turns, statement-written}
 use Rattle.writing.proofs.write.write_statement.Goals as goal
 
 pub slice_bounds-open_statement-count : goal.slice_bounds-open_statement-count
 slice_bounds-open_statement-count c =
-    let h = head-stands _ _ _ _ _ (sym c.read_head-head.ensures ∙ c.in-Named.is) in
+    let h = head-stands _ c.in-Ok-Some.head (sym c.read_head.ensures ∙ (rw c.in-Ok-Some.field-0-is at c.in-Ok-Some.is)) in
     omega (arith, h.starts)
 
 pub slice_bounds-open_statement-start : goal.slice_bounds-open_statement-start
 slice_bounds-open_statement-start c =
-    let h = head-stands _ _ _ _ _ (sym c.read_head-head.ensures ∙ c.in-Named.is) in
+    let h = head-stands _ c.in-Ok-Some.head (sym c.read_head.ensures ∙ (rw c.in-Ok-Some.field-0-is at c.in-Ok-Some.is)) in
     omega (arith, h.starts)
 
 pub slice_bounds-open_statement-end : goal.slice_bounds-open_statement-end
 slice_bounds-open_statement-end c =
-    let h = head-stands _ _ _ _ _ (sym c.read_head-head.ensures ∙ c.in-Named.is) in
+    let h = head-stands _ c.in-Ok-Some.head (sym c.read_head.ensures ∙ (rw c.in-Ok-Some.field-0-is at c.in-Ok-Some.is)) in
     omega (arith, h.ends)
 
 pub give_values-requires : goal.give_values-requires
@@ -25,14 +25,15 @@ give_values-requires c =
     let p = c.requires in
     (c.open_statement-opened.auto.m ∙ p.0, opened-ready _ _ _ _ _ _ _ p.1 c.open_statement-opened.ensures)
 
-pub returns-in-Blank : goal.returns-in-Blank
-returns-in-Blank c = λ s es e. nothing-turns _ _ s es _ (blank-next _ _ s es (sym c.read_head-head.ensures ∙ c.in-Blank.is) e)
-
-pub returns-in-Named : goal.returns-in-Named
-returns-in-Named c = λ s es e.
+pub returns-in-Ok-Some : goal.returns-in-Ok-Some
+returns-in-Ok-Some c = λ s es e.
     let p = c.requires in
-    statement-written _ _ s es _ p.1 p.0 _ _ _ _ _ _ _ _ _ (sym c.read_head-head.ensures ∙ c.in-Named.is)
-    c.open_statement-opened.ensures c.give_values.ensures e
+    let q = sym c.read_head.ensures ∙ (rw c.in-Ok-Some.field-0-is at c.in-Ok-Some.is) in
+    statement-written _ _ s es _ p.1 p.0 _ _ _ _ _ c.open_statement-opened.ensures c.give_values.ensures (rw q at e)
 
-pub returns-in-Fault : goal.returns-in-Fault
-returns-in-Fault c = λ s es e. no-head _ _ _ _ s es (sym c.read_head-head.ensures ∙ c.in-Fault.is) e
+pub returns-in-Ok-None : goal.returns-in-Ok-None
+returns-in-Ok-None c = λ s es e.
+    nothing-turns _ _ s es _ (rw (sym c.read_head.ensures ∙ (rw c.in-Ok-None.field-0-is at c.in-Ok-None.is)) at e)
+
+pub returns-in-Err : goal.returns-in-Err
+returns-in-Err c = λ s es e. not-faulty _ _ s es (rw (sym c.read_head.ensures ∙ c.in-Err.is) at e)

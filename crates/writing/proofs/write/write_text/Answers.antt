@@ -1,5 +1,4 @@
 -- `write_text` meets its contract: what is left to write onto this page is what was to be written onto the first. Assumes nothing.
-use Prim.Native.Nat.{◌-◌}
 use native.Mathlib.Omega.{arith}
 use mathlib.Core.Path.{◌∙◌}
 use Rattle.writing.proofs.Passes.{at_first, roomy, one_more, at_last}
