@@ -9,10 +9,14 @@ use Rattle.layout.specs.Memory.{NONE_OPEN, text_count, statement_count, value_co
 use Rattle.layout.specs.Damage.{Framed, total_bytes}
 use Rattle.removing.specs.declared.gap.Gap.{Gap}
 
+-- the gap of so many elements behind so many, among all that there are
+abbrev pub gap_among : (all before inside : ℕ) → Gap
+gap_among n b i = record { before = b; inside = i; after = n - b - i }
+
 -- ---- the gap of the text at a place
 
 abbrev pub text_gap : (place : ℕ) → List ℕ → Gap
-text_gap place m = record { before = place; inside = 1; after = text_count m - place - 1 }
+text_gap place m = gap_among (text_count m) place 1
 
 -- its statements
 abbrev pub statements_before : (place : ℕ) → List ℕ → ℕ
@@ -22,11 +26,7 @@ abbrev pub statements_inside : (place : ℕ) → List ℕ → ℕ
 statements_inside place m = lower (get_or m (TEXTS_AT + place) 0)
 
 abbrev pub statement_gap : (place : ℕ) → List ℕ → Gap
-statement_gap place m = record {
-  before = statements_before place m;
-  inside = statements_inside place m;
-  after = statement_count m - statements_before place m - statements_inside place m;
-}
+statement_gap place m = gap_among (statement_count m) (statements_before place m) (statements_inside place m)
 
 -- the values of the statements in a gap
 abbrev pub values_before : Gap → List ℕ → ℕ
@@ -36,7 +36,7 @@ abbrev pub values_inside : Gap → List ℕ → ℕ
 values_inside s m = sum (part (HEADS_AT + s.before) s.inside m)
 
 abbrev pub value_gap : Gap → List ℕ → Gap
-value_gap s m = record { before = values_before s m; inside = values_inside s m; after = value_count m - values_before s m - values_inside s m }
+value_gap s m = gap_among (value_count m) (values_before s m) (values_inside s m)
 
 -- the bytes of the strings among them
 abbrev pub bytes_before : Gap → List ℕ → ℕ
@@ -46,7 +46,7 @@ abbrev pub bytes_inside : Gap → List ℕ → ℕ
 bytes_inside s m = total_bytes (part (HEADS_AT + s.before) s.inside m) (drop (values_before s m) (value_words m))
 
 abbrev pub byte_gap : Gap → List ℕ → Gap
-byte_gap s m = record { before = bytes_before s m; inside = bytes_inside s m; after = byte_count m - bytes_before s m - bytes_inside s m }
+byte_gap s m = gap_among (byte_count m) (bytes_before s m) (bytes_inside s m)
 
 -- ---- closing it
 

@@ -3,17 +3,18 @@ ghost use Rattle.std.specs.Prelude.{◌≡◌, ◌+◌, ◌≤◌, length};
 ghost use Rattle.words.specs.Over.{part};
 ghost use Rattle.words.specs.Halves.{HALF, sum};
 ghost use Rattle.layout.specs.Limits.{STATEMENTS, BYTES, WORDS};
-ghost use Rattle.removing.specs.Gaps.{text_gap, statement_gap, value_gap, byte_gap, closing, closing_bytes, fourfold, left, whole, closed, taken_out, Spanned, Gapped, Closes};
+ghost use Rattle.removing.specs.Gaps.{gap_among, text_gap, statement_gap, value_gap, byte_gap, closing, closing_bytes, fourfold, left, whole, closed, taken_out, Spanned, Gapped, Closes};
 
 use layout::area::values_of;
 use layout::front::write_front;
 use layout::limits::{
-    BYTE_COUNT, BYTES_AT, BYTEWORDS, HALF, HEADS_AT, NAMES_AT, STATEMENT_COUNT, TEXT_COUNT,
-    TEXTS_AT, VALUE_COUNT, VALUES_AT,
+    BYTE_COUNT, BYTES_AT, BYTEWORDS, HEADS_AT, NAMES_AT, STATEMENT_COUNT, TEXT_COUNT, TEXTS_AT,
+    VALUE_COUNT, VALUES_AT,
 };
 use layout::taken::sum_bytes;
 use names::pack::NAMEWORDS;
 use octets::area::shift_bytes_in;
+use words::half::lower;
 use words::read::part_of;
 use words::scan::sum_lower;
 use words::write::shift;
@@ -24,6 +25,28 @@ pub struct Gap {
     pub before: usize,
     pub inside: usize,
     pub after: usize,
+}
+
+impl Gap {
+    // Four words for each element, as names have.
+    fn fourfold(self) -> Gap
+        requires { whole self ≤ STATEMENTS }
+        ensures { result ≡ fourfold self }
+    {
+        Gap {
+            before: NAMEWORDS * self.before,
+            inside: NAMEWORDS * self.inside,
+            after: NAMEWORDS * self.after,
+        }
+    }
+
+    // How many are left.
+    fn left(self) -> u64
+        requires { whole self ≤ BYTES }
+        ensures { result ≡ left self }
+    {
+        (self.before + self.after) as u64
+    }
 }
 
 // The text at a place goes, with its statements, their values and the bytes of their strings; the front is written last.
@@ -38,10 +61,10 @@ pub fn take_out(m: &mut [u64], place: usize)
     close_areas(m, texts, statements, values, bytes);
     write_front(
         m,
-        count(texts),
-        count(statements),
-        count(values),
-        count(bytes),
+        texts.left(),
+        statements.left(),
+        values.left(),
+        bytes.left(),
     );
 }
 
@@ -50,12 +73,7 @@ fn text_gap(m: &[u64], place: usize) -> Gap
     requires { Gapped place m.now }
     ensures { result ≡ text_gap place m.now }
 {
-    let texts = m[TEXT_COUNT] as usize;
-    Gap {
-        before: place,
-        inside: 1,
-        after: texts - place - 1,
-    }
+    gap_among(m[TEXT_COUNT], place, 1)
 }
 
 // The gap of its statements.
@@ -64,13 +82,8 @@ fn statement_gap(m: &[u64], place: usize) -> Gap
     ensures { result ≡ statement_gap place m.now }
 {
     let before = sum_part(m, TEXTS_AT, place);
-    let inside = (m[TEXTS_AT + place] % HALF) as usize;
-    let statements = m[STATEMENT_COUNT] as usize;
-    Gap {
-        before,
-        inside,
-        after: statements - before - inside,
-    }
+    let inside = lower(m[TEXTS_AT + place]) as usize;
+    gap_among(m[STATEMENT_COUNT], before, inside)
 }
 
 // The gap of their values.
@@ -82,12 +95,7 @@ fn value_gap(m: &[u64], statements: Gap) -> Gap
     let many = statements.inside;
     let before = sum_part(m, HEADS_AT, from);
     let inside = sum_part(m, HEADS_AT + from, many);
-    let values = m[VALUE_COUNT] as usize;
-    Gap {
-        before,
-        inside,
-        after: values - before - inside,
-    }
+    gap_among(m[VALUE_COUNT], before, inside)
 }
 
 // The gap of the bytes of their strings.
@@ -101,11 +109,18 @@ fn byte_gap(m: &[u64], statements: Gap) -> Gap
     let skipped = sum_part(m, HEADS_AT, from);
     let before = sum_bytes(part_of(m, HEADS_AT, from), values) as usize;
     let inside = sum_bytes(part_of(m, HEADS_AT + from, many), &values[skipped..]) as usize;
-    let bytes = m[BYTE_COUNT] as usize;
+    gap_among(m[BYTE_COUNT], before, inside)
+}
+
+// The gap of so many elements behind so many, among all that there are.
+fn gap_among(all: u64, before: usize, inside: usize) -> Gap
+    requires { before + inside ≤ all }
+    ensures { result ≡ gap_among all before inside }
+{
     Gap {
         before,
         inside,
-        after: bytes - before - inside,
+        after: all as usize - before - inside,
     }
 }
 
@@ -125,7 +140,7 @@ fn close_areas(m: &mut [u64], texts: Gap, statements: Gap, values: Gap, bytes: G
     close_bytes(m, bytes);
     close_area(m, TEXTS_AT, texts);
     close_area(m, HEADS_AT, statements);
-    close_area(m, NAMES_AT, four(statements));
+    close_area(m, NAMES_AT, statements.fourfold());
     close_area(m, VALUES_AT, values);
 }
 
@@ -146,24 +161,4 @@ fn close_area(m: &mut [u64], at: usize, gap: Gap)
     let to = at + gap.before;
     let from = to + gap.inside;
     shift(m, to, from, gap.after);
-}
-
-// Four words a statement.
-fn four(gap: Gap) -> Gap
-    requires { whole gap ≤ STATEMENTS }
-    ensures { result ≡ fourfold gap }
-{
-    Gap {
-        before: NAMEWORDS * gap.before,
-        inside: NAMEWORDS * gap.inside,
-        after: NAMEWORDS * gap.after,
-    }
-}
-
-// How many are left.
-fn count(gap: Gap) -> u64
-    requires { whole gap ≤ BYTES }
-    ensures { result ≡ left gap }
-{
-    (gap.before + gap.after) as u64
 }

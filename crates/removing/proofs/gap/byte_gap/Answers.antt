@@ -12,7 +12,7 @@ use Rattle.layout.specs.Limits.{HEADS_AT}
 use Rattle.layout.specs.Memory.{value_count, byte_count, value_words}
 use Rattle.layout.specs.Damage.{Counted, total_bytes}
 use Rattle.layout.proofs.Areas.{length-values}
-use Rattle.removing.specs.Gaps.{values_before, Spanned}
+use Rattle.removing.specs.Gaps.{gap_among, values_before, Spanned}
 use Rattle.removing.specs.declared.gap.Gap.{Gap}
 use Rattle.removing.proofs.gap.byte_gap.Goals as goal
 
@@ -51,15 +51,12 @@ pub sum_bytes-inside-requires : goal.sum_bytes-inside-requires
 sum_bytes-inside-requires c =
     counted-inside _ _ _ c.requires c.values_of-values.ensures _ c.sum_part-skipped.ensures _ c.part_of-2.ensures
 
-pub overflow_sub-result : goal.overflow_sub-result
-overflow_sub-result c = omega (arith, (c.sum_bytes-before.ensures ∙ ap₂ total_bytes c.part_of.ensures c.values_of-values.ensures), c.requires.bytes)
-
-pub overflow_sub-result-2 : goal.overflow_sub-result-2
-overflow_sub-result-2 c = omega (arith, (c.sum_bytes-before.ensures ∙ ap₂ total_bytes c.part_of.ensures c.values_of-values.ensures), (c.sum_bytes-inside.ensures ∙ ap₂ total_bytes c.part_of-2.ensures (rest _ _ _ c.requires c.values_of-values.ensures _ c.sum_part-skipped.ensures)), c.requires.bytes)
+pub gap_among-requires : goal.gap_among-requires
+gap_among-requires c = omega (arith, (c.sum_bytes-before.ensures ∙ ap₂ total_bytes c.part_of.ensures c.values_of-values.ensures), (c.sum_bytes-inside.ensures ∙ ap₂ total_bytes c.part_of-2.ensures (rest _ _ _ c.requires c.values_of-values.ensures _ c.sum_part-skipped.ensures)), c.requires.bytes)
 
 pub returns : goal.returns
 returns c =
     let m = c.args.m.now in
     let e = (c.sum_bytes-before.ensures ∙ ap₂ total_bytes c.part_of.ensures c.values_of-values.ensures) in
     let f = (c.sum_bytes-inside.ensures ∙ ap₂ total_bytes c.part_of-2.ensures (rest _ _ _ c.requires c.values_of-values.ensures _ c.sum_part-skipped.ensures)) in
-    λ i. record { before = e i; inside = f i; after = byte_count m - e i - f i }
+    c.gap_among.ensures ∙ ap₂ (gap_among (byte_count m)) e f

@@ -8,6 +8,7 @@ use Rattle.layout.specs.Memory.{NONE_OPEN}
 use Rattle.removing.specs.Gaps.{text_gap, statement_gap, value_gap, byte_gap, left, closed, taken_out, Spanned, Gapped, Closes}
 use Rattle.removing.specs.declared.gap.Gap.{Gap}
 use Rattle.removing.proofs.gap.take_out.Goals as goal
+use Rattle.removing.proofs.gap.take_out.Goals.{After-close_areas}
 
 -- ---- over plain memories and gaps
 -- the gaps of the text at a place
@@ -51,21 +52,29 @@ byte_gap-bytes-requires c =
     subst (λ (g : Gap). Spanned g c.args.m.now) (sym c.statement_gap-statements.ensures) c.requires.rest
 
 pub close_areas-requires : goal.close_areas-requires
-close_areas-requires c = (fit _ _ _ _ _ _ (find _ _ _ _ _ _ c.text_gap-texts.ensures c.statement_gap-statements.ensures c.value_gap-values.ensures c.byte_gap-bytes.ensures) c.requires)
+close_areas-requires c =
+    fit _ _ _ _ _ _ (find _ _ _ _ _ _ c.text_gap-texts.ensures c.statement_gap-statements.ensures c.value_gap-values.ensures c.byte_gap-bytes.ensures) c.requires
 
-pub count-requires : goal.count-requires
-count-requires c = omega (arith, (fit _ _ _ _ _ _ (find _ _ _ _ _ _ c.text_gap-texts.ensures c.statement_gap-statements.ensures c.value_gap-values.ensures c.byte_gap-bytes.ensures) c.requires).texts)
+-- the gaps that the four calls found
+found : (c : After-close_areas) → Found c.args.place c.args.m.now c.text_gap-texts.result c.statement_gap-statements.result c.value_gap-values.result c.byte_gap-bytes.result
+found c = find _ _ _ _ _ _ c.text_gap-texts.ensures c.statement_gap-statements.ensures c.value_gap-values.ensures c.byte_gap-bytes.ensures
 
-pub count-requires-2 : goal.count-requires-2
-count-requires-2 c = omega (arith, (fit _ _ _ _ _ _ (find _ _ _ _ _ _ c.text_gap-texts.ensures c.statement_gap-statements.ensures c.value_gap-values.ensures c.byte_gap-bytes.ensures) c.requires).statements)
+closes : (c : After-close_areas) → Closes c.text_gap-texts.result c.statement_gap-statements.result c.value_gap-values.result c.byte_gap-bytes.result c.args.m.now
+closes c = fit _ _ _ _ _ _ (found c) c.requires
 
-pub count-requires-3 : goal.count-requires-3
-count-requires-3 c = omega (arith, (fit _ _ _ _ _ _ (find _ _ _ _ _ _ c.text_gap-texts.ensures c.statement_gap-statements.ensures c.value_gap-values.ensures c.byte_gap-bytes.ensures) c.requires).values)
+pub left-requires : goal.left-requires
+left-requires c = omega (arith, (closes (goal.at.left-requires c).After-close_areas).texts)
 
-pub count-requires-4 : goal.count-requires-4
-count-requires-4 c = omega (arith, (fit _ _ _ _ _ _ (find _ _ _ _ _ _ c.text_gap-texts.ensures c.statement_gap-statements.ensures c.value_gap-values.ensures c.byte_gap-bytes.ensures) c.requires).bytes)
+pub left-requires-2 : goal.left-requires-2
+left-requires-2 c = omega (arith, (closes (goal.at.left-requires-2 c).After-close_areas).statements)
+
+pub left-requires-3 : goal.left-requires-3
+left-requires-3 c = omega (arith, (closes (goal.at.left-requires-3 c).After-close_areas).values)
+
+pub left-requires-4 : goal.left-requires-4
+left-requires-4 c = omega (arith, (closes (goal.at.left-requires-4 c).After-close_areas).bytes)
 
 pub returns : goal.returns
 returns c =
-    out _ _ _ _ _ _ (find _ _ _ _ _ _ c.text_gap-texts.ensures c.statement_gap-statements.ensures c.value_gap-values.ensures c.byte_gap-bytes.ensures) _ _ _ _ _ _
-    c.count.ensures c.count-2.ensures c.count-3.ensures c.count-4.ensures c.close_areas.ensures c.write_front.ensures
+    out _ _ _ _ _ _ (found (goal.at.returns c).After-close_areas) _ _ _ _ _ _
+    c.left.ensures c.left-2.ensures c.left-3.ensures c.left-4.ensures c.close_areas.ensures c.write_front.ensures
