@@ -1,11 +1,13 @@
 -- Putting no texts writes the front alone; the answers of make empty and of clear, and what make empty leaves. Assumes nothing.
-use mathlib.Core.Path.{◌≡◌, ap, ◌∙◌}
+use mathlib.Core.Path.{◌≡◌, sym, ap, ◌∙◌}
 use mathlib.Core.Bool.{true, false}
 use mathlib.Core.List.{List, [], ◌∷◌}
 use Prim.Native.Nat.{ℕ}
 use borrow.Author.Tests.{eq-eqb, ne_eqb, eqb-true}
 use lib.ListN.{length}
-use Rattle.refusal.specs.declared.Refusal.TheVariants.{DamagedPool, TextOpen}
+use Rattle.std.specs.Prelude.{Ok, Err}
+use Rattle.refusal.specs.declared.Refusal.{Refusal}
+use Rattle.refusal.specs.declared.Refusal.TheVariants.{DamagedPool}
 use Rattle.words.specs.Over.{over}
 use Rattle.words.proofs.Each.{Words}
 use Rattle.words.proofs.Over.{over-nil}
@@ -15,10 +17,11 @@ use Rattle.layout.specs.Memory.{opens, decode, NONE_OPEN, put}
 use Rattle.layout.specs.Damage.{sized, sound}
 use Rattle.layout.proofs.Legal.{fits-none, legal-none}
 use Rattle.layout.proofs.Holds.{decode-put, put-closed, put-sound}
+use Rattle.pool.specs.Ready.{with_none_open}
 use Rattle.pool.specs.Replies.{refusing}
 use Rattle.pool.specs.Empty.{empty_reply, clear_reply, emptied, Empties, Clears}
-use Rattle.pool.specs.declared.reply.Reply.TheVariants.{Done}
 use Rattle.pool.proofs.Inking.{ink-none}
+use Rattle.pool.proofs.Tested.{closed-sound, closed-shut, closed-refused}
 
 -- the words in front where nothing is held
 abbrev NONE : List ℕ
@@ -35,21 +38,18 @@ module _ (m : List ℕ) where
   unfolding empty_reply
   empty-refused n = let e : sized m ≡ false = ne_eqb (length m) WORDS n in record { reply = rw e; memory = rw e }
 
-  pub empty-done : (after : List ℕ) → length m ≡ WORDS → after ≡ put [] m → Empties m Done after
+  pub empty-done : (after : List ℕ) → length m ≡ WORDS → after ≡ put [] m → Empties m (Ok tt) after
   unfolding empty_reply
   empty-done after n a = let e : sized m ≡ true = eq-eqb (length m) WORDS n in record { reply = rw e; memory = rw e a }
 
-  pub clear-refused : sound m ≡ false → Clears m (refusing DamagedPool) m
+  pub clear-refused : (q : Refusal) → with_none_open m ≡ Err q → Clears m (refusing q) m
   unfolding clear_reply
-  clear-refused e = record { reply = rw e; memory = rw e }
+  clear-refused q e = let r : clear_reply m ≡ refusing q = closed-refused m q (Ok tt) e in record { reply = sym r; memory = rw r }
 
-  pub clear-open : sound m ≡ true → opens m ≡ true → Clears m (refusing TextOpen) m
+  pub clear-done : (after : List ℕ) → with_none_open m ≡ Ok tt → after ≡ put [] m → Clears m (Ok tt) after
   unfolding clear_reply
-  clear-open e o = record { reply = rw (e, o); memory = rw (e, o) }
-
-  pub clear-done : (after : List ℕ) → sound m ≡ true → opens m ≡ false → after ≡ put [] m → Clears m Done after
-  unfolding clear_reply
-  clear-done after e o a = record { reply = rw (e, o); memory = rw (e, o) a }
+  clear-done after e a =
+      record { reply = rw (closed-sound m e, closed-shut m e); memory = rw (closed-sound m e, closed-shut m e) a }
 
   -- ---- what make empty leaves
 

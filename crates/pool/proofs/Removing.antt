@@ -1,4 +1,4 @@
--- The four answers of a removal: the pool is damaged, a text is open, the label is not held, or the other texts are put. Assumes nothing.
+-- The answers of a removal: the pool is not ready for it, the label is not held, or the other texts are put. Assumes nothing.
 use mathlib.Core.Path.{◌≡◌, sym, ap, subst, ◌∙◌}
 use mathlib.Core.Bool.{true, false}
 use mathlib.Core.List.{List, ◌∷◌, ◌++◌, map}
@@ -6,13 +6,14 @@ use Prim.Native.Nat.{ℕ, ◌≤◌, ◌<◌}
 use native.Mathlib.Omega.{arith}
 use borrow.Author.Tests.{lt-ltb, le-ltb}
 use lib.ListN.{length}
-use Rattle.refusal.specs.declared.Refusal.TheVariants.{NotHeld, DamagedPool, TextOpen}
+use Rattle.std.specs.Prelude.{Ok, Err}
+use Rattle.refusal.specs.declared.Refusal.{Refusal}
+use Rattle.refusal.specs.declared.Refusal.TheVariants.{NotHeld}
 use Rattle.words.specs.Halves.{place}
 use Rattle.plain.proofs.Each.{Each}
 use Rattle.words.proofs.Each.{Words}
 use Rattle.layout.specs.State.{Pool, program}
-use Rattle.layout.specs.Memory.{text_count, text_words, text_word, opens, decode, put}
-use Rattle.layout.specs.Damage.{sound}
+use Rattle.layout.specs.Memory.{text_count, text_words, text_word, decode, put}
 use Rattle.layout.proofs.Areas.{length-texts}
 use Rattle.layout.proofs.Sound.{Sound, sound-of}
 use Rattle.layout.proofs.Codec.{ShortText, each-short-text}
@@ -20,12 +21,13 @@ use Rattle.layout.proofs.Holds.{Holds, holds-decode, texts-decode, decode-fits, 
 use Rattle.layout.proofs.Legal.{Fair}
 use Rattle.removing.specs.Gaps.{Gapped, taken_out}
 use Rattle.removing.proofs.Removal.{gapped, taken-out}
+use Rattle.pool.specs.Ready.{with_none_open}
 use Rattle.pool.specs.Replies.{refusing}
 use Rattle.pool.specs.Held.{held}
-use Rattle.pool.specs.Remove.{without, remove_reply, remove_memory, Removes}
-use Rattle.pool.specs.declared.reply.Reply.TheVariants.{Done}
+use Rattle.pool.specs.Remove.{without, remove_answer, remove_reply, remove_memory, Removes}
 use Rattle.pool.proofs.Labels.{held-placed}
 use Rattle.pool.proofs.Parted.{Parted, parted}
+use Rattle.pool.proofs.Tested.{closed-sound, closed-shut, closed-refused}
 
 -- the texts of a sound memory are short enough to be counted
 short : (m : List ℕ) → Sound m → Each ShortText (decode m)
@@ -65,24 +67,24 @@ module _ (l : ℕ) (m : List ℕ) (S : Sound m) where
     pub taken_here : taken_out at m ≡ put (without l (decode m)) m
     taken_here = ap (λ (k : ℕ). taken_out k m) here ∙ taken-out m P.before P.text P.after H F w ∙ sym (ap (λ (s : Pool). put s m) P.rest)
 
--- ---- the four answers
+-- ---- the answers
 
 module _ (l : ℕ) (m : List ℕ) where
-  pub remove-refused : sound m ≡ false → Removes l m (refusing DamagedPool) m
+  pub remove-refused : (q : Refusal) → with_none_open m ≡ Err q → Removes l m (refusing q) m
   unfolding remove_reply remove_memory
-  remove-refused e = record { reply = rw e; memory = rw e }
+  remove-refused q e = let r : remove_reply l m ≡ refusing q = closed-refused m q (remove_answer l (decode m)) e in record { reply = sym r; memory = rw r }
 
-  pub remove-open : sound m ≡ true → opens m ≡ true → Removes l m (refusing TextOpen) m
+  pub remove-missing : with_none_open m ≡ Ok tt → text_count m ≤ place l (text_words m) → Removes l m (refusing NotHeld) m
   unfolding remove_reply remove_memory
-  remove-open e o = record { reply = rw (e, o); memory = rw (e, o) }
+  remove-missing e h =
+      let s = closed-sound m e in
+      let n = held-nowhere l m (sound-of m s) h in
+      record { reply = rw (s, closed-shut m e, n); memory = rw (s, closed-shut m e, n) }
 
-  pub remove-missing : sound m ≡ true → opens m ≡ false → text_count m ≤ place l (text_words m) → Removes l m (refusing NotHeld) m
+  pub remove-done : with_none_open m ≡ Ok tt → Words m → place l (text_words m) < text_count m → (after : List ℕ) → after ≡ taken_out (place l (text_words m)) m → Removes l m (Ok tt) after
   unfolding remove_reply remove_memory
-  remove-missing e o h = let n = held-nowhere l m (sound-of m e) h in record { reply = rw (e, o, n); memory = rw (e, o, n) }
-
-  pub remove-done : sound m ≡ true → opens m ≡ false → Words m → place l (text_words m) < text_count m → (after : List ℕ) → after ≡ taken_out (place l (text_words m)) m → Removes l m Done after
-  unfolding remove_reply remove_memory
-  remove-done e o w h after a =
-      let S = sound-of m e in
+  remove-done e w h after a =
+      let s = closed-sound m e in
+      let S = sound-of m s in
       let n = held-here l m S h in
-      record { reply = rw (e, o, n); memory = rw (e, o, n) (a ∙ taken_here l m S w h) }
+      record { reply = rw (s, closed-shut m e, n); memory = rw (s, closed-shut m e, n) (a ∙ taken_here l m S w h) }

@@ -1,14 +1,12 @@
 -- "Room freed by a removal can be used again.": the text under a label goes, and the others keep their order; 8 where "label not held",
 -- 22 while a text is open. Definitions only.
-use Rattle.std.specs.Prelude.{ℕ, ◌≡◌, List, [], ◌∷◌, eqb, if◌then◌else◌}
+use Rattle.std.specs.Prelude.{ℕ, ◌≡◌, List, [], ◌∷◌, Ok, eqb, if◌then◌else◌}
 use Rattle.refusal.specs.declared.Refusal.TheVariants.{NotHeld, DamagedPool, TextOpen}
 use Rattle.layout.specs.State.{Pool}
 use Rattle.layout.specs.Memory.{decode, put, opens}
 use Rattle.layout.specs.Damage.{sound}
-use Rattle.pool.specs.Replies.{done, refusing}
+use Rattle.pool.specs.Replies.{Reply, done, refusing}
 use Rattle.pool.specs.Held.{held}
-use Rattle.pool.specs.declared.reply.Reply.{Reply}
-use Rattle.pool.specs.declared.reply.Reply.TheVariants.{Done}
 
 -- the other texts, in their order
 unfoldable pub without : ℕ → Pool → Pool
@@ -17,7 +15,7 @@ without label (t ∷ ts) = if eqb t.label label then ts else (t ∷ without labe
 
 -- on the state
 abbrev pub remove_answer : (label : ℕ) → Pool → Reply
-remove_answer label s = if held label s then Done else refusing NotHeld
+remove_answer label s = if held label s then Ok tt else refusing NotHeld
 
 unfoldable pub remove_reply : (label : ℕ) (m : List ℕ) → Reply
 unfolding held

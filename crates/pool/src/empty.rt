@@ -3,35 +3,30 @@ ghost use Rattle.std.specs.Prelude.{◌≡◌, []};
 ghost use Rattle.layout.specs.Memory.{put};
 ghost use Rattle.pool.specs.Empty.{Empties, Clears};
 
-use crate::reply::Reply;
-use layout::check::{is_open, is_sound};
+use crate::ready::test_closed;
+use crate::reply::Refused;
 use layout::front::write_front;
 use layout::limits::WORDS;
 use refusal::Refusal;
 
 // The pool holds nothing, whatever it held; an open text is dropped.
-pub fn make_empty(pool: &mut [u64]) -> Reply
+pub fn make_empty(pool: &mut [u64]) -> Result<(), Refused>
     ensures { Empties pool.old result pool.new }
 {
     if pool.len() != WORDS {
-        return Reply::Refused(Refusal::DamagedPool, 0, 0);
+        return Err(Refusal::DamagedPool.into());
     }
     hold_nothing(pool);
-    Reply::Done
+    Ok(())
 }
 
 // An undamaged pool with no text open holds nothing.
-pub fn clear(pool: &mut [u64]) -> Reply
+pub fn clear(pool: &mut [u64]) -> Result<(), Refused>
     ensures { Clears pool.old result pool.new }
 {
-    if !is_sound(pool) {
-        return Reply::Refused(Refusal::DamagedPool, 0, 0);
-    }
-    if is_open(pool) {
-        return Reply::Refused(Refusal::TextOpen, 0, 0);
-    }
+    test_closed(pool)?;
     hold_nothing(pool);
-    Reply::Done
+    Ok(())
 }
 
 fn hold_nothing(pool: &mut [u64])

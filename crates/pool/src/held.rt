@@ -12,6 +12,5 @@ pub fn is_held(pool: &[u64], label: u32) -> bool
     requires { Framed pool.now }
     ensures { result ≡ held label (decode pool.now) }
 {
-    let texts = texts_of(pool);
-    place_of(texts, label as u64) < texts.len()
+    place_of(texts_of(pool), label as u64).is_some()
 }

@@ -5,6 +5,7 @@ pub mod empty;
 pub mod fetch;
 pub mod fetch_string;
 pub mod held;
+pub mod ready;
 pub mod remove;
 pub mod reply;
 pub mod totals;

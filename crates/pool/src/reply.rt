@@ -1,23 +1,33 @@
 // What the calls on a pool answer.
+ghost use Rattle.std.specs.Prelude.{◌≡◌};
+ghost use Rattle.pool.specs.Refusing.{plain};
+
 use refusal::Refusal;
 
-// The answer of a call that changes the pool. The line and the column are those of a fault in a text, and 0 otherwise.
+// Why a call that changes the pool is refused. The line and the column are those of a fault in a text, and 0 otherwise.
 #[derive(Clone, Copy)]
-pub enum Reply {
-    Done,
-    Refused(Refusal, usize, usize),
+pub struct Refused {
+    pub refusal: Refusal,
+    pub line: usize,
+    pub column: usize,
 }
 
-// The answer of a fetch: how many values were written, or how many bytes of a string.
-#[derive(Clone, Copy)]
-pub enum Fetched {
-    Count(usize),
-    Refused(Refusal),
+impl From<Refusal> for Refused {
+    ghost from_gives = { λ refusal r. r ≡ plain refusal };
+
+    fn from(refusal: Refusal) -> Refused {
+        Refused {
+            refusal: refusal,
+            line: 0,
+            column: 0,
+        }
+    }
 }
 
-// The totals held: texts, statements, values.
+// The totals held.
 #[derive(Clone, Copy)]
-pub enum Counts {
-    Held(usize, usize, usize),
-    Refused(Refusal),
+pub struct Counts {
+    pub texts: usize,
+    pub statements: usize,
+    pub values: usize,
 }

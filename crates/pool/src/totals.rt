@@ -2,18 +2,17 @@
 ghost use Rattle.pool.specs.Totals.{Totals};
 
 use crate::reply::Counts;
-use layout::check::is_sound;
-use layout::limits::{STATEMENT_COUNT, TEXT_COUNT, VALUE_COUNT};
+use layout::undamaged::Undamaged;
 use refusal::Refusal;
 
-pub fn totals(pool: &[u64]) -> Counts
+pub fn totals(pool: &[u64]) -> Result<Counts, Refusal>
     ensures { Totals pool.now result }
 {
-    if !is_sound(pool) {
-        return Counts::Refused(Refusal::DamagedPool);
-    }
-    let texts = pool[TEXT_COUNT] as usize;
-    let statements = pool[STATEMENT_COUNT] as usize;
-    let values = pool[VALUE_COUNT] as usize;
-    Counts::Held(texts, statements, values)
+    let pool = Undamaged::of(pool).ok_or(Refusal::DamagedPool)?;
+    let held = pool.totals();
+    Ok(Counts {
+        texts: held.texts as usize,
+        statements: held.statements as usize,
+        values: held.values as usize,
+    })
 }

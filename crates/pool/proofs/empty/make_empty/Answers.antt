@@ -3,7 +3,7 @@ use Rattle.pool.proofs.Emptying.{empty-refused, empty-done}
 use Rattle.pool.proofs.empty.make_empty.Goals as goal
 
 pub returns-then-pool-ne-WORDS : goal.returns-then-pool-ne-WORDS
-returns-then-pool-ne-WORDS c = empty-refused c.args.pool.now c.if-pool-ne-WORDS.true
+returns-then-pool-ne-WORDS c = rw c.into.ensures (empty-refused c.args.pool.now c.if-pool-ne-WORDS.true)
 
 pub returns : goal.returns
 returns c =

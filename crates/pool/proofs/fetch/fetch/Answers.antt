@@ -1,14 +1,17 @@
 -- `fetch` meets its contract: a damaged pool is refused, and otherwise what is found is answered. Assumes nothing.
-use mathlib.Core.Path.{sym, ◌∙◌}
+use mathlib.Core.Path.{◌≡◌, sym}
+use borrow.Author.Rules.{rules}
+use Rattle.std.specs.Prelude.{Err}
+use Rattle.refusal.specs.declared.Refusal.TheVariants.{DamagedPool}
 use Rattle.pool.proofs.Fetching.{fetches-damaged, fetches-found}
 use Rattle.pool.proofs.fetch.fetch.Goals as goal
 
-pub returns-then-not-is_sound : goal.returns-then-not-is_sound
-returns-then-not-is_sound c = fetches-damaged _ _ _ (sym c.is_sound.ensures ∙ c.if-not-is_sound.true)
-
-pub variable-requires : goal.variable-requires
-variable-requires c = sym c.is_sound.ensures ∙ c.if-not-is_sound.false
+pub returns-in_err-pool : goal.returns-in_err-pool
+returns-in_err-pool c =
+    let r : c.from_residual.result ≡ Err DamagedPool = search rules in
+    rw r (fetches-damaged _ _ _ (rw c.in_err-pool.ensures.ok_part at c.of.ensures))
 
 pub returns : goal.returns
 returns c =
-    fetches-found _ _ _ _ _ _ (sym c.is_sound.ensures ∙ c.if-not-is_sound.false) c.answer.ensures c.variable.ensures
+    let n = rw c.in_ok-pool.ensures.ok_part at c.of.ensures in
+    rw (sym n) (fetches-found _ _ _ _ _ _ c.in_ok-pool.pool.tested c.answer.ensures c.variable.ensures)
