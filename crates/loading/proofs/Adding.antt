@@ -8,7 +8,7 @@ use Rattle.statement.specs.Statements.{Event, Values, numbers, strings, joined_l
 use Rattle.text.specs.Text.{fine, read_text}
 use Rattle.text.specs.Text as T
 use Rattle.text.proofs.Legal.{total, total_length, none-loose}
-use Rattle.text.proofs.Counts.{statements-counted, values-counted, bytes_given-counted}
+use Rattle.text.proofs.Totals.{statements-counted, values-counted, bytes_given-counted}
 use Rattle.words.specs.Halves.{HALF}
 use Rattle.words.specs.Over.{over}
 use Rattle.words.proofs.Each.{Words}

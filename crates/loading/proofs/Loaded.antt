@@ -19,8 +19,7 @@ use Rattle.layout.specs.Damage.{sound}
 use Rattle.layout.proofs.Holds.{decode-legal, decode-put, put-sound}
 use Rattle.layout.proofs.Legal.{Fair, Legal, fits-of, legal-add}
 use Rattle.layout.proofs.Sound.{sound-of}
-use Rattle.pool.specs.Replies.{done, refusing}
-use Rattle.pool.specs.declared.reply.Reply.{Reply}
+use Rattle.pool.specs.Replies.{Reply, done, refusing}
 use Rattle.pool.specs.Held.{held}
 use Rattle.loading.specs.Load.{text_of, with, admitted, load_answer, load_reply, load_memory}
 use Rattle.loading.proofs.Adding.{body-read}

@@ -1,8 +1,8 @@
 -- There is room for a text more exactly when the totals leave it. Assumes nothing.
 use Prim.Native.Nat.{ℕ, ◌+◌, ◌≤◌}
 use native.Mathlib.Omega.{arith}
-use mathlib.Core.Path.{◌≡◌, sym, ap, ◌∙◌}
-use mathlib.Core.Bool.{true, false}
+use mathlib.Core.Path.{◌≡◌, refl, sym, ap, ◌∙◌}
+use mathlib.Core.Bool.{Bool, true, false}
 use mathlib.Core.List.{List, [], ◌∷◌}
 use lib.ListN.{length, length-append}
 use Rattle.plain.proofs.Tests.{is_false}
@@ -57,8 +57,13 @@ module _ (m : List ℕ) (e : sound m ≡ true) (t : Text) (n k b : ℕ) (c : Cou
         bytes = omega (arith, f.bytes, bytes-with (decode m) t, length-bytes-held m S, c.bytes=);
       }
 
-  pub has_room : Leaves m n k b → true ≡ room (with (decode m) t)
+  has_room : Leaves m n k b → true ≡ room (with (decode m) t)
   has_room l = sym (of-fits (with (decode m) t) (leaves-fits l))
 
   pub no_room : (Leaves m n k b → ⊥) → false ≡ room (with (decode m) t)
   no_room f = sym (is_false (room (with (decode m) t)) (λ r. f (fits-leaves (fits-of (with (decode m) t) r))))
+
+  -- a test that decides it
+  pub decides : (x : Bool) → (x ≡ true → Leaves m n k b) → (x ≡ false → Leaves m n k b → ⊥) → x ≡ room (with (decode m) t)
+  decides true y z = has_room (y refl)
+  decides false y z = no_room (z refl)

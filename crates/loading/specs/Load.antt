@@ -1,7 +1,7 @@
 -- "A text is accepted exactly when its label is not held, the rules admit it and the undamaged pool has room." "Order: 15 first; then by
 -- call 1, 2, the first faulty line (in it 3, then 4, then whichever of 5 and 6 starts at the earlier byte), 7"; 17 to 21 "stand where 5 stood";
 -- 22 "stands after 15". Definitions only.
-use Rattle.std.specs.Prelude.{ℕ, ◌≤◌, ◌≡◌, Bool, true, false, List, [], ◌∷◌, ◌++◌, ltb, length, if◌then◌else◌}
+use Rattle.std.specs.Prelude.{ℕ, ◌≤◌, ◌≡◌, Bool, true, false, List, [], ◌∷◌, ◌++◌, ltb, length, Ok, if◌then◌else◌}
 use Rattle.refusal.specs.declared.Refusal.TheVariants.{LabelHeld, TextTooLong, NoRoom, DamagedPool, TextOpen}
 use Rattle.value.specs.Faults.{refusal_of}
 use Rattle.statement.specs.Statements.{Event, statements, openings, givings, bytes_given}
@@ -12,9 +12,7 @@ use Rattle.layout.specs.Limits.{room, LONGEST_LOAD}
 use Rattle.layout.specs.Memory.{decode, put, opens}
 use Rattle.layout.specs.Damage.{sound}
 use Rattle.pool.specs.Held.{held}
-use Rattle.pool.specs.Replies.{done, refusing}
-use Rattle.pool.specs.declared.reply.Reply.{Reply}
-use Rattle.pool.specs.declared.reply.Reply.TheVariants.{Done, Refused}
+use Rattle.pool.specs.Replies.{Reply, done, refusing, refusing_at}
 
 -- the text under its label
 unfoldable pub text_of : (label : ℕ) (bytes : List ℕ) → Text
@@ -32,9 +30,9 @@ pub record Counted (t : Text) (statements values spelled : ℕ) : Type 0 where
 
 -- by what reading the text gave, and whether there is room
 abbrev pub admitted : Read → (room : Bool) → Reply
-admitted (fine es) true = Done
+admitted (fine es) true = Ok tt
 admitted (fine es) false = refusing NoRoom
-admitted (refused q line place) room = Refused (refusal_of q) line (column_of place)
+admitted (refused q line place) room = refusing_at (refusal_of q) line (column_of place)
 
 -- on the state
 unfoldable pub load_answer : (label : ℕ) (bytes : List ℕ) → Pool → Reply
