@@ -18,8 +18,7 @@ use Rattle.text.specs.Text.{read_text}
 use Rattle.layout.specs.State.{Pool}
 use Rattle.layout.specs.Limits.{room}
 use Rattle.loading.specs.Load.{text_of, with, admitted}
-use Rattle.pool.specs.Replies.{done, refusing}
-use Rattle.pool.specs.declared.reply.Reply.{Reply}
+use Rattle.pool.specs.Replies.{Reply, done, refusing}
 use Rattle.feeding.specs.Parts.{MOST, Open, Ended, opening, fed, folded, joined}
 use Rattle.feeding.specs.Reading.{going, completed}
 use Rattle.feeding.specs.Reading as G

@@ -4,12 +4,13 @@ use Prim.Native.Nat.{ℕ, ◌-◌}
 use mathlib.Core.List.{List, [], ◌∷◌, map}
 use lib.ListN.{take, drop}
 use Rattle.plain.proofs.Each.{Each}
+use Rattle.std.specs.Prelude.{Option, None, Some, Result, Ok, Err}
 use Rattle.value.specs.Value.{Value}
+use Rattle.value.specs.declared.faults.LineFault.{LineFault}
 use Rattle.statement.specs.Head.{head}
 use Rattle.statement.specs.Statements.{Event, opened, value}
 use Rattle.statement.specs.Values.{Given, given, wrong, listed, given_at}
-use Rattle.statement.specs.declared.head.Head.{Head}
-use Rattle.statement.specs.declared.head.Head.TheVariants as H
+use Rattle.statement.specs.declared.head.Named.{Named}
 use Rattle.statement.specs.declared.head.Operator.{Operator}
 use Rattle.statement.specs.declared.values.Kind.{Kind}
 use Rattle.statement.specs.declared.values.Kind.TheVariants as K
@@ -56,10 +57,11 @@ module _ (Q : Sort) (h : Holds Q) where
   in-section R.Data s f = h.quiet R.Data s tt f
   in-section (R.List k) s f = tt
 
-  in-data : (line : List ℕ) (d : Head) → FairLine line → LegalHead line d → Faultless Q R.Data (stated line d)
-  in-data line H.Blank f l = h.quiet R.Data R.Data tt tt
-  in-data line (H.Named n e o i) f l = in-statement (take (e - n) (drop n line)) o (given_at line i) l (good-given Small read_small line f i)
-  in-data line (H.Fault q k) f l = tt
+  in-data : (line : List ℕ) (d : Result (Option Named) LineFault) → FairLine line → LegalHead line d → Faultless Q R.Data (stated line d)
+  in-data line (Ok None) f l = h.quiet R.Data R.Data tt tt
+  in-data line (Ok (Some d)) f l =
+      in-statement (take (d.end - d.start) (drop d.start line)) d.operator (given_at line d.at) l (good-given Small read_small line f d.at)
+  in-data line (Err q) f l = tt
 
   in-said : (r : Reader) (line : List ℕ) → FairTo r line → Faultless Q r (said r line)
   in-said R.Text line f = h.quiet R.Text R.Text tt tt

@@ -21,4 +21,4 @@ complete-squeezes s = record { squeezes = λ p number k b l. by p.body p.standin
         → by_standing s body t number (k ++ b ∷ l) ≡ by_standing s body t number (squeezed k b ++ l)
     by body (S.Storing r) number k b l h = ap (λ (o : Outcome). storing_line s r body o number) (answered-squeezed r k b l h)
     by body (S.Overflowed r) number k b l h = ap (λ (o : Outcome). overflowed_line body o number) (answered-squeezed r k b l h)
-    by body (S.Faulted q n j) number k b l h = refl
+    by body (S.Faulted f) number k b l h = refl

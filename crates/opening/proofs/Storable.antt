@@ -5,9 +5,11 @@ use mathlib.Core.Path.{◌≡◌, refl}
 use mathlib.Core.Bool.{Bool, true, false}
 use mathlib.Core.List.{List, []}
 use Rattle.plain.proofs.Each.{Each}
+use Rattle.value.specs.Faults.{faulty}
 use Rattle.statement.specs.Statements.{Statement}
 use Rattle.statement.specs.declared.values.Reader.{Reader}
 use Rattle.text.specs.Line.{Outcome, next, fault, answered}
+use Rattle.text.specs.Text.{in_line}
 use Rattle.layout.specs.State.{Pool}
 use Rattle.layout.specs.Limits.{room}
 use Rattle.layout.proofs.Legal.{Fair}
@@ -34,12 +36,12 @@ module _ (s : Pool) (e : room s ≡ true) where
   storable-line : (r : Reader) (body : List Statement) (number : ℕ) → Storable s (record { body = body; standing = S.Storing r })
       → (o : Outcome) → Faultless KeepsFair r o → Storable s (storing_line s r body o number)
   storable-line r body number h (next q fs) f = storable-by q (extended r body fs) (f body h.fair)
-  storable-line r body number h (fault q k) f = nothing (S.Faulted q number k)
+  storable-line r body number h (fault q k) f = nothing (S.Faulted (in_line number (faulty q k)))
 
   lost-line : (r : Reader) (body : List Statement) (number : ℕ) → Storable s (record { body = body; standing = S.Overflowed r })
       → (o : Outcome) → Storable s (overflowed_line body o number)
   lost-line r body number h (next q fs) = record { fits = h.fits; fair = h.fair }
-  lost-line r body number h (fault q k) = nothing (S.Faulted q number k)
+  lost-line r body number h (fault q k) = nothing (S.Faulted (in_line number (faulty q k)))
 
   -- from any progress on
   pub storable : (p : Progress) → Storable s p → (number : ℕ) (line : List ℕ) → Storable s (complete s p number line)
@@ -49,4 +51,4 @@ module _ (s : Pool) (e : room s ≡ true) where
       by : (body : List Statement) (t : Standing) → Storable s (record { body = body; standing = t }) → Storable s (by_standing s body t number line)
       by body (S.Storing r) h = storable-line r body number h (answered r line) (every-line KeepsFair fair-line r line)
       by body (S.Overflowed r) h = lost-line r body number h (answered r line)
-      by body (S.Faulted q n k) h = h
+      by body (S.Faulted f) h = h

@@ -74,7 +74,7 @@ module _ (s : Pool) (e : room s ≡ true) where
   done-limit : (t : Standing) (number long : ℕ) → done (end_reply s t number long) ≡ true → ltb (length s) TEXTS ≡ true
   done-limit (S.Storing r) number long d = end-limit r number long (ltb (length s) TEXTS) d
   done-limit (S.Overflowed r) number long d = true-false (sym (end-limit r number long false d))
-  done-limit (S.Faulted q n k) number long d = true-false (sym d)
+  done-limit (S.Faulted f) number long d = true-false (sym d)
 
   pub room-closed : (label : ℕ) (o : Open Progress) → Storable s o.progress → done (close_answer s o) ≡ true
       → room (with s (record { label = label; body = (closed s o).progress.body })) ≡ true

@@ -1,6 +1,6 @@
 -- "the outcome at closing is that of one load of the joined bytes, with 4,194,304 bytes as the limit here": the answer of a closing and the texts
 -- then held, in the order 2, the first fault, 7. Definitions only.
-use Rattle.std.specs.Prelude.{ℕ, ◌≡◌, Bool, true, false, List, ltb, length, if◌then◌else◌}
+use Rattle.std.specs.Prelude.{ℕ, ◌≡◌, Bool, true, false, List, Ok, ltb, length, if◌then◌else◌}
 use Rattle.refusal.specs.declared.Refusal.TheVariants.{TextTooLong, NoRoom}
 use Rattle.value.specs.Faults.{refusal_of}
 use Rattle.value.specs.declared.faults.Fault.TheVariants as F
@@ -11,9 +11,7 @@ use Rattle.text.specs.Text.{read_text}
 use Rattle.layout.specs.State.{Pool}
 use Rattle.layout.specs.Limits.{TEXTS, room}
 use Rattle.loading.specs.Load.{text_of, with, admitted}
-use Rattle.pool.specs.Replies.{done, refusing}
-use Rattle.pool.specs.declared.reply.Reply.{Reply}
-use Rattle.pool.specs.declared.reply.Reply.TheVariants.{Done, Refused}
+use Rattle.pool.specs.Replies.{Reply, done, refusing, refusing_at}
 use Rattle.feeding.specs.Parts.{MOST, Open, Ended, opening, fed_all, joined, lastly}
 use Rattle.bookmark.specs.declared.mark.Standing.{Standing}
 use Rattle.bookmark.specs.declared.mark.Standing.TheVariants as S
@@ -21,19 +19,19 @@ use Rattle.opening.specs.Storing.{Progress, start, complete}
 
 -- 7 where there is no room
 abbrev pub by_room : (fits : Bool) → Reply
-by_room true = Done
+by_room true = Ok tt
 by_room false = refusing NoRoom
 
 -- the end of the text after so many lines, the last one so long, by how the reader stands; `fits` is whether there is room
 abbrev pub at_end : Reader → (number long : ℕ) → (fits : Bool) → Reply
 at_end R.Text number long fits = by_room fits
 at_end R.Data number long fits = by_room fits
-at_end (R.List k) number long fits = Refused (refusal_of F.OpenList) number (column_of long)
+at_end (R.List k) number long fits = refusing_at (refusal_of F.OpenList) number (column_of long)
 
 abbrev pub end_reply : Pool → Standing → (number long : ℕ) → Reply
 end_reply s (S.Storing r) number long = at_end r number long (ltb (length s) TEXTS)
 end_reply s (S.Overflowed r) number long = at_end r number long false
-end_reply s (S.Faulted q line place) number long = Refused (refusal_of q) line (column_of place)
+end_reply s (S.Faulted f) number long = refusing_at (refusal_of f.fault) f.line (column_of f.place)
 
 -- the open text as it closes: its last line may lack an LF
 abbrev pub closed : Pool → Open Progress → Ended Progress

@@ -2,6 +2,7 @@
 -- which lines are still read, because a faulty one is told before 7; or the first fault. Definitions only.
 use Rattle.std.specs.Prelude.{ℕ, ◌+◌, ◌≡◌, Bool, true, ◌&&◌, List, [], ◌∷◌, ◌++◌, map, leb, length, if◌then◌else◌}
 use Rattle.plain.specs.Lists.{Each}
+use Rattle.value.specs.Faults.{faulty}
 use Rattle.value.specs.Value.{Value}
 use Rattle.value.specs.declared.faults.Fault.{Fault}
 use Rattle.statement.specs.Statements.{Values, numbers, strings, Statement, Event, numbers_in, strings_in, of_one_kind, gathered}
@@ -10,6 +11,7 @@ use Rattle.statement.specs.declared.values.Kind.TheVariants as K
 use Rattle.statement.specs.declared.values.Reader.{Reader}
 use Rattle.statement.specs.declared.values.Reader.TheVariants as R
 use Rattle.text.specs.Line.{Outcome, next, fault, answered}
+use Rattle.text.specs.Text.{in_line}
 use Rattle.bookmark.specs.declared.mark.Standing.{Standing}
 use Rattle.bookmark.specs.declared.mark.Standing.TheVariants as S
 use Rattle.layout.specs.State.{Pool, program, flat, values_of, bytes_of, values, string_bytes}
@@ -85,7 +87,7 @@ abbrev pub stored : Pool → Reader → List Statement → Progress
 stored s r body = if fitting s body then record { body = body; standing = S.Storing r } else record { body = []; standing = S.Overflowed r }
 
 abbrev pub stopping : Fault → (line place : ℕ) → Progress
-stopping q line place = record { body = []; standing = S.Faulted q line place }
+stopping q line place = record { body = []; standing = S.Faulted (in_line line (faulty q place)) }
 
 abbrev pub storing_line : Pool → Reader → List Statement → Outcome → (number : ℕ) → Progress
 storing_line s r body (next after es) number = stored s after (extended r body es)
@@ -98,7 +100,7 @@ overflowed_line body (fault q k) number = stopping q number k
 abbrev pub by_standing : Pool → List Statement → Standing → (number : ℕ) → List ℕ → Progress
 by_standing s body (S.Storing r) number line = storing_line s r body (answered r line) number
 by_standing s body (S.Overflowed r) number line = overflowed_line body (answered r line) number
-by_standing s body (S.Faulted q n k) number line = record { body = body; standing = S.Faulted q n k }
+by_standing s body (S.Faulted f) number line = record { body = body; standing = S.Faulted f }
 
 -- line `number` of the text that is open beside the held ones
 unfoldable pub complete : Pool → Progress → (number : ℕ) → List ℕ → Progress
