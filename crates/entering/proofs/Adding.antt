@@ -1,5 +1,5 @@
 -- What the code knows where it writes a line, and where it counts what the line adds, is what completing the line asks. Assumes nothing.
-use Prim.Native.Nat.{ℕ, ◌+◌, ◌-◌, ◌≤◌}
+use Prim.Native.Nat.{ℕ, ◌+◌, ◌≤◌}
 use native.Mathlib.Omega.{arith}
 use mathlib.Core.Path.{◌≡◌, refl, sym, ap, subst, ◌∙◌}
 use mathlib.Core.Bool.{Bool, true, false}
@@ -86,7 +86,7 @@ module _ (r : Reader) (line : List ℕ) (q : Reader) (n k b : ℕ) (p : Steps r 
       c = ap counted p.is
 
       l : (openings p.events ≤ 1) × (givings p.events ≤ length line) × (bytes_given p.events ≤ length line)
-      l = line-counts r line q (openings p.events) (givings p.events) (bytes_given p.events) c
+      l = line-counts r line (record { reader = q; opened = openings p.events; given = givings p.events; bytes = bytes_given p.events }) c
 
       by : (t : Bool) → ltb 0 (openings p.events + givings p.events) ≡ t → (n ≤ 1) × (k ≤ LONGEST_LINE) × (b ≤ LONGEST_LINE)
       by true f =

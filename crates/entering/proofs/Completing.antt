@@ -8,8 +8,11 @@ use mathlib.Core.List.{List, [], ◌∷◌, ◌++◌, map, append-nil}
 use lib.Dec.{leb}
 use lib.ListN.{length, take}
 use Rattle.plain.proofs.Each.{Each}
+use Rattle.std.specs.Prelude.{Result}
+use Rattle.value.specs.Faults.{faulty}
 use Rattle.value.specs.Value.{Value}
 use Rattle.value.specs.declared.faults.Fault.{Fault}
+use Rattle.value.specs.declared.faults.LineFault.{LineFault}
 use Rattle.statement.specs.Statements.{Event, value, Values, numbers, strings, Statement, openings, givings, bytes_given}
 use Rattle.statement.specs.declared.values.Kind.{Kind}
 use Rattle.statement.specs.declared.values.Kind.TheVariants as K
@@ -17,7 +20,9 @@ use Rattle.statement.specs.declared.values.Reader.{Reader}
 use Rattle.statement.specs.declared.values.Reader.TheVariants as R
 use Rattle.statement.proofs.Events.{givings-values}
 use Rattle.text.specs.Line.{Outcome, next, fault, answered, counted}
-use Rattle.text.specs.declared.line.Answer.{Answer}
+use Rattle.text.specs.Text.{in_line}
+use Rattle.text.specs.declared.TextFault.{TextFault}
+use Rattle.text.specs.declared.line.Step.{Step}
 use Rattle.words.specs.Over.{over}
 use Rattle.words.proofs.Over.{over-nil}
 use Rattle.layout.specs.State.{Pool, flat, values_of, bytes_of}
@@ -146,11 +151,11 @@ module _ (m : List ℕ) (e : Entered) (a : Ready m e) where
   unfolding complete
   standing_by t h number line = ap (λ (x : Standing). by_standing s body x number line) h
 
-  pub stays-faulted : (q : Fault) (n k : ℕ) → e.standing ≡ S.Faulted q n k → (number : ℕ) (line : List ℕ) → Completes m e number line m e
-  stays-faulted q n k h number line =
-      completes number line body (S.Faulted q n k) m e (standing_by (S.Faulted q n k) h number line) (sym a.stands) (ap (standing_as e) h ∙ same-counted (S.Faulted q n k)) tt
+  pub stays-faulted : (f : TextFault) → e.standing ≡ S.Faulted f → (number : ℕ) (line : List ℕ) → Completes m e number line m e
+  stays-faulted f h number line =
+      completes number line body (S.Faulted f) m e (standing_by (S.Faulted f) h number line) (sym a.stands) (ap (standing_as e) h ∙ same-counted (S.Faulted f)) tt
 
-  pub reads_on : (r : Reader) → e.standing ≡ S.Overflowed r → (number : ℕ) (line : List ℕ) (x : Entered) (y : Answer) → y ≡ counted (answered r line)
+  pub reads_on : (r : Reader) → e.standing ≡ S.Overflowed r → (number : ℕ) (line : List ℕ) (x : Entered) (y : Result Step LineFault) → y ≡ counted (answered r line)
       → x ≡ read_on e number y → Completes m e number line m x
   reads_on r h number line x y p q = by (answered r line) refl (q ∙ ap (read_on e number) p)
     where
@@ -159,8 +164,8 @@ module _ (m : List ℕ) (e : Entered) (a : Ready m e) where
           completes number line body (S.Overflowed z) m x (standing_by (S.Overflowed r) h number line ∙ ap (λ (o : Outcome). overflowed_line body o number) f) (sym a.stands)
           (g ∙ same-counted (S.Overflowed z)) tt
       by (fault z k) f g =
-          completes number line [] (S.Faulted z number k) m x (standing_by (S.Overflowed r) h number line ∙ ap (λ (o : Outcome). overflowed_line body o number) f) none-laid
-          (g ∙ none-counted (S.Faulted z number k)) tt
+          completes number line [] (S.Faulted (in_line number (faulty z k))) m x (standing_by (S.Overflowed r) h number line ∙ ap (λ (o : Outcome). overflowed_line body o number) f) none-laid
+          (g ∙ none-counted (S.Faulted (in_line number (faulty z k)))) tt
 
   -- ---- where the text is stored so far
 
@@ -171,9 +176,9 @@ module _ (m : List ℕ) (e : Entered) (a : Ready m e) where
     stored-by : (number : ℕ) (line : List ℕ) (o : Outcome) → answered r line ≡ o → complete s before number line ≡ storing_line s r body o number
     stored-by number line o f = standing_by (S.Storing r) h number line ∙ ap (λ (x : Outcome). storing_line s r body x number) f
 
-    pub stops : (number : ℕ) (line : List ℕ) (q : Fault) (k : ℕ) (x : Entered) → answered r line ≡ fault q k → x ≡ emptied (S.Faulted q number k) → Completes m e number line m x
+    pub stops : (number : ℕ) (line : List ℕ) (q : Fault) (k : ℕ) (x : Entered) → answered r line ≡ fault q k → x ≡ emptied (S.Faulted (in_line number (faulty q k))) → Completes m e number line m x
     stops number line q k x f g =
-        completes number line [] (S.Faulted q number k) m x (stored-by number line (fault q k) f) none-laid (g ∙ none-counted (S.Faulted q number k)) tt
+        completes number line [] (S.Faulted (in_line number (faulty q k))) m x (stored-by number line (fault q k) f) none-laid (g ∙ none-counted (S.Faulted (in_line number (faulty q k)))) tt
 
     module _ (line : List ℕ) (q : Reader) (es : List Event) (f : answered r line ≡ next q es) where
       abbrev new : List Statement

@@ -1,5 +1,4 @@
--- What a line that was looked at makes of the text: nothing is written for it, or what it adds is to be, and either way it is known how the text
--- stands then. Assumes nothing.
+-- What a line adds that was looked at: what is written for it completes the text, and it is known how the text stands then. Assumes nothing.
 use Prim.Native.Nat.{ℕ}
 use mathlib.Core.Path.{◌≡◌, refl, ap, subst}
 use mathlib.Core.List.{List}
@@ -14,18 +13,12 @@ use Rattle.entering.specs.declared.line.Seen.TheVariants as W
 use Rattle.entering.proofs.Adding.{laid_as}
 
 module _ (m : List ℕ) (e : Entered) (number : ℕ) (line : List ℕ) (v : Seen) (l : Looks m e number line v) where
-  pub unwritten : (x : Entered) → v ≡ W.Unwritten x → Completes m e number line m x
-  unwritten x p = subst (Looks m e number line) p l
-
   pub written : (x : Entered) (r : Reader) (given : ℕ) → v ≡ W.Written x r given
       → Adds m e r line given × ((after : List ℕ) → Lays m e r line after → Completes m e number line after x)
   written x r given p = subst (Looks m e number line) p l
 
   foreseen : (x : Entered) (after : List ℕ) → Completes m e number line after x → x ≡ (complete_on (entry m e) number line).entered
   foreseen x after c = ap (λ (y : Entry). y.entered) c.is
-
-  pub foreseen-unwritten : (x : Entered) → v ≡ W.Unwritten x → x ≡ (complete_on (entry m e) number line).entered
-  foreseen-unwritten x p = foreseen x m (unwritten x p)
 
   pub foreseen-written : (x : Entered) (r : Reader) (given : ℕ) → v ≡ W.Written x r given → x ≡ (complete_on (entry m e) number line).entered
   foreseen-written x r given p =

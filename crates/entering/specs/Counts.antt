@@ -1,11 +1,12 @@
 -- What the complete lines of an open text count, as numbers: how much a line adds, and whether the pool has room for it. Definitions only.
-use Rattle.std.specs.Prelude.{ℕ, ◌+◌, ◌-◌, ◌≤◌, Bool, ◌&&◌, List, leb}
+use Rattle.std.specs.Prelude.{ℕ, ◌+◌, ◌-◌, ◌≤◌, Bool, ◌&&◌, List, Result, Ok, Err, leb}
 use Rattle.statement.specs.declared.values.Kind.{Kind}
 use Rattle.statement.specs.declared.values.Kind.TheVariants as K
 use Rattle.statement.specs.declared.values.Reader.{Reader}
 use Rattle.statement.specs.declared.values.Reader.TheVariants as R
-use Rattle.text.specs.declared.line.Answer.{Answer}
-use Rattle.text.specs.declared.line.Answer.TheVariants as A
+use Rattle.value.specs.declared.faults.LineFault.{LineFault}
+use Rattle.text.specs.Text.{in_line}
+use Rattle.text.specs.declared.line.Step.{Step}
 use Rattle.words.specs.Halves.{HALF}
 use Rattle.layout.specs.Limits.{STATEMENTS, VALUES, BYTES}
 use Rattle.layout.specs.Memory.{statement_count, value_count, byte_count}
@@ -58,6 +59,6 @@ room_for m e =
     leb (statement_count m + e.statements) STATEMENTS && leb (value_count m + e.values) VALUES && leb (byte_count m + e.bytes) BYTES
 
 -- a line of a text that is not stored any more
-abbrev pub read_on : Entered → (number : ℕ) → Answer → Entered
-read_on e number (A.Next q n k b) = standing_as e (S.Overflowed q)
-read_on e number (A.Fault q k) = emptied (S.Faulted q number k)
+abbrev pub read_on : Entered → (number : ℕ) → Result Step LineFault → Entered
+read_on e number (Ok s) = standing_as e (S.Overflowed s.reader)
+read_on e number (Err f) = emptied (S.Faulted (in_line number f))

@@ -43,7 +43,7 @@ Bears (R.List k) body = Listing k body
 abbrev pub Borne : Standing → List Statement → Type 0
 Borne (S.Storing r) body = Bears r body
 Borne (S.Overflowed r) body = Unit
-Borne (S.Faulted q n k) body = Unit
+Borne (S.Faulted f) body = Unit
 
 -- what is stored of the text stands behind the held texts, of which there is no complaint, and is counted
 pub record Ready (m : List ℕ) (e : Entered) : Type 0 where

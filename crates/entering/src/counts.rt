@@ -1,57 +1,63 @@
 // How much of an open text is stored.
 ghost use Rattle.std.specs.Prelude.{◌≡◌};
+ghost use Rattle.text.specs.Text.{in_line};
 ghost use Rattle.layout.specs.Damage.{Framed};
+ghost use Rattle.bookmark.specs.declared.mark.Standing.TheVariants as S;
 ghost use Rattle.entering.specs.Counts.{places, emptied, grown, room_for, read_on, Few, Countable};
 
 use bookmark::mark::{Entered, Standing};
 use layout::limits::{BYTE_COUNT, BYTES, STATEMENT_COUNT, STATEMENTS, VALUE_COUNT, VALUES};
 use statement::values::{Kind, Reader};
-use text::line::Answer;
+use text::TextFault;
+use text::line::Step;
+use value::faults::LineFault;
 
 // Nothing of the text is stored.
 pub fn emptied(standing: Standing) -> Entered
     ensures { result ≡ emptied standing }
 {
     Entered {
-        standing: standing,
+        standing,
         statements: 0,
         values: 0,
         bytes: 0,
     }
 }
 
+// A line's fault ends what is stored of the text.
+pub fn stopped(number: usize, found: LineFault) -> Entered
+    ensures { result ≡ emptied (S.Faulted (in_line number found)) }
+{
+    emptied(Standing::Faulted(TextFault {
+        fault: found.fault,
+        line: number,
+        place: found.place,
+    }))
+}
+
 // A text of which there is no room is read on, because a faulty line is told before 7.
-pub fn read_on(entered: Entered, number: usize, answer: Answer) -> Entered
+pub fn read_on(entered: Entered, number: usize, answer: Result<Step, LineFault>) -> Entered
     ensures { result ≡ read_on entered number answer }
 {
     match answer {
-        Answer::Next(after, _, _, _) => Entered {
-            standing: Standing::Overflowed(after),
-            statements: entered.statements,
-            values: entered.values,
-            bytes: entered.bytes,
+        Ok(step) => Entered {
+            standing: Standing::Overflowed(step.reader),
+            ..entered
         },
-        Answer::Fault(fault, place) => emptied(Standing::Faulted(fault, number, place)),
+        Err(found) => stopped(number, found),
     }
 }
 
 // The first values of a list take the place that is held for them; a list without a value holds one.
-pub fn grown(
-    entered: Entered,
-    before: Reader,
-    after: Reader,
-    opened: usize,
-    given: usize,
-    spelled: usize,
-) -> Entered
-    requires { Countable entered before opened given spelled }
-    ensures { result ≡ grown entered before after opened given spelled }
+pub fn grown(entered: Entered, before: Reader, step: Step) -> Entered
+    requires { Countable entered before step.opened step.given step.bytes }
+    ensures { result ≡ grown entered before step.reader step.opened step.given step.bytes }
 {
     Entered {
-        standing: Standing::Storing(after),
-        statements: entered.statements + opened,
-        values: entered.values - places(before) + given + places(after),
-        bytes: entered.bytes + spelled,
+        standing: Standing::Storing(step.reader),
+        statements: entered.statements + step.opened,
+        values: entered.values - places(before) + step.given + places(step.reader),
+        bytes: entered.bytes + step.bytes,
     }
 }
 
@@ -60,13 +66,8 @@ pub fn places(reader: Reader) -> usize
     ensures { result ≡ places reader }
 {
     match reader {
-        Reader::Text => 0,
-        Reader::Data => 0,
-        Reader::List(kind) => match kind {
-            Kind::Empty => 1,
-            Kind::Numbers => 0,
-            Kind::Strings => 0,
-        },
+        Reader::List(Kind::Empty) => 1,
+        _ => 0,
     }
 }
 
@@ -75,11 +76,7 @@ pub fn has_room(pool: &[u64], sums: Entered) -> bool
     requires { (Framed pool.now) × (Few sums) }
     ensures { result ≡ room_for pool.now sums }
 {
-    if STATEMENTS < pool[STATEMENT_COUNT] + (sums.statements as u64) {
-        return false;
-    }
-    if VALUES < pool[VALUE_COUNT] + (sums.values as u64) {
-        return false;
-    }
-    pool[BYTE_COUNT] + (sums.bytes as u64) <= BYTES
+    pool[STATEMENT_COUNT] + (sums.statements as u64) <= STATEMENTS
+        && pool[VALUE_COUNT] + (sums.values as u64) <= VALUES
+        && pool[BYTE_COUNT] + (sums.bytes as u64) <= BYTES
 }

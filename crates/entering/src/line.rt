@@ -5,11 +5,11 @@ ghost use Rattle.bookmark.specs.declared.mark.Standing.TheVariants as S;
 ghost use Rattle.entering.specs.Entries.{entry, complete_on};
 ghost use Rattle.entering.specs.Lines.{Ready, Completes, Looks, Steps};
 
-use crate::counts::{emptied, grown, has_room, read_on};
+use crate::counts::{emptied, grown, has_room, read_on, stopped};
 use crate::write::write_added;
 use bookmark::mark::{Entered, Standing};
 use statement::values::Reader;
-use text::line::{Answer, line_step};
+use text::line::{Step, line_step};
 
 // What a line makes of an open text: nothing is written for it, or what it adds is to be, of so many values, to a list that stands so.
 #[derive(Clone, Copy)]
@@ -23,8 +23,7 @@ pub fn complete_line(pool: &mut [u64], entered: Entered, number: usize, line: &[
     requires { Ready pool.old entered }
     ensures { Completes pool.old entered number line.now pool.new result }
 {
-    let seen = look(pool, entered, number, line);
-    match seen {
+    match look(pool, entered, number, line) {
         Seen::Unwritten(after) => after,
         Seen::Written(after, reader, given) => {
             write_added(pool, entered, reader, line, given);
@@ -38,8 +37,7 @@ pub fn foresee(pool: &[u64], entered: Entered, number: usize, line: &[u8]) -> En
     requires { Ready pool.now entered }
     ensures { result ≡ (complete_on (entry pool.now entered) number line.now).entered }
 {
-    let seen = look(pool, entered, number, line);
-    match seen {
+    match look(pool, entered, number, line) {
         Seen::Unwritten(after) => after,
         Seen::Written(after, _, _) => after,
     }
@@ -50,13 +48,12 @@ fn look(pool: &[u64], entered: Entered, number: usize, line: &[u8]) -> Seen
     requires { Ready pool.now entered }
     ensures { Looks pool.now entered number line.now result }
 {
-    let standing = entered.standing;
-    match standing {
+    match entered.standing {
         Standing::Storing(reader) => look_on(pool, entered, reader, number, line),
         Standing::Overflowed(reader) => {
             Seen::Unwritten(read_on(entered, number, line_step(reader, line)))
         }
-        Standing::Faulted(_, _, _) => Seen::Unwritten(entered),
+        Standing::Faulted(_) => Seen::Unwritten(entered),
     }
 }
 
@@ -65,39 +62,24 @@ fn look_on(pool: &[u64], entered: Entered, reader: Reader, number: usize, line: 
     requires { (Ready pool.now entered) × (entered.standing ≡ S.Storing reader) }
     ensures { Looks pool.now entered number line.now result }
 {
-    let answer = line_step(reader, line);
-    match answer {
-        Answer::Next(after, opened, given, spelled) => {
-            sum_up(pool, entered, reader, line, after, opened, given, spelled)
-        }
-        Answer::Fault(fault, place) => {
-            Seen::Unwritten(emptied(Standing::Faulted(fault, number, place)))
-        }
+    match line_step(reader, line) {
+        Ok(step) => sum_up(pool, entered, reader, line, step),
+        Err(found) => Seen::Unwritten(stopped(number, found)),
     }
 }
 
 // A line without a fault: what it adds is stored, or, where the pool has no room for it, nothing of the text is any more.
-fn sum_up(
-    pool: &[u64],
-    entered: Entered,
-    reader: Reader,
-    line: &[u8],
-    after: Reader,
-    opened: usize,
-    given: usize,
-    spelled: usize,
-) -> Seen
-    requires { (Ready pool.now entered) × (entered.standing ≡ S.Storing reader) × (Steps reader line.now after opened given spelled) }
+fn sum_up(pool: &[u64], entered: Entered, reader: Reader, line: &[u8], step: Step) -> Seen
+    requires { (Ready pool.now entered) × (entered.standing ≡ S.Storing reader)
+        × (Steps reader line.now step.reader step.opened step.given step.bytes) }
     ensures { (number : ℕ) → Looks pool.now entered number line.now result }
 {
-    let sums = grown(entered, reader, after, opened, given, spelled);
+    let sums = grown(entered, reader, step);
     if !has_room(pool, sums) {
-        return Seen::Unwritten(emptied(Standing::Overflowed(after)));
+        return Seen::Unwritten(emptied(Standing::Overflowed(step.reader)));
     }
-    if opened == 0 {
-        if given == 0 {
-            return Seen::Unwritten(sums);
-        }
+    if step.opened == 0 && step.given == 0 {
+        return Seen::Unwritten(sums);
     }
-    Seen::Written(sums, reader, given)
+    Seen::Written(sums, reader, step.given)
 }

@@ -20,9 +20,8 @@ pub fn write_added(pool: &mut [u64], entered: Entered, reader: Reader, line: &[u
 {
     let pen = pen_at(pool, entered, reader);
     let turn = write_line(pool, pen, reader, line);
-    let behind = turn.pen;
     if given == 0 {
-        hold_place(pool, behind);
+        hold_place(pool, turn.pen);
     }
 }
 
@@ -45,9 +44,8 @@ fn last_head(pool: &[u64], heads: usize, reader: Reader) -> u64
     ensures { result ≡ last_head pool.now heads reader }
 {
     match reader {
-        Reader::Text => 0,
-        Reader::Data => 0,
-        Reader::List(kind) => pool[heads - 1] - (places(Reader::List(kind)) as u64),
+        Reader::List(_) => pool[heads - 1] - (places(reader) as u64),
+        _ => 0,
     }
 }
 

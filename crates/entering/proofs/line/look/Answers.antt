@@ -8,4 +8,4 @@ returns-in-Overflowed c =
 
 pub returns-in-Faulted : goal.returns-in-Faulted
 returns-in-Faulted c =
-    stays-faulted _ _ c.requires _ _ _ c.in-Faulted.is _ _
+    stays-faulted _ _ c.requires _ c.in-Faulted.is _ _

@@ -1,15 +1,8 @@
 -- `hold_place` meets its contract: a number is stored, and told to the head. Assumes nothing.
-use native.Mathlib.Omega.{arith}
 use mathlib.Core.Path.{ap, ◌∙◌}
 use mathlib.Core.Bool.{false}
 use Rattle.page.specs.Writing.{Page, stored_all, told_on}
 use Rattle.entering.proofs.write.hold_place.Goals as goal
-
-pub tell-requires : goal.tell-requires
-tell-requires c =
-    let a = c.requires.1 in
-    let e = ap (λ (x : Page). x.pen) c.store_number-stored.ensures in
-    record { some = rw e a.some; head = rw e a.head; few = omega arith }
 
 pub returns : goal.returns
 unfolding stored_all
