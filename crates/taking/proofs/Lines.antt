@@ -1,15 +1,16 @@
 -- One line in a part: its bytes are held if it goes on, and it is completed where its LF stands. Assumes nothing.
-use Prim.Native.Nat.{ℕ, ◌+◌, ◌-◌, ◌≤◌, ◌<◌}
-use native.Mathlib.Nat.{add-zero}
+use Prim.Native.Nat.{ℕ, suc, ◌+◌, ◌-◌, ◌≤◌, ◌<◌}
 use native.Mathlib.Omega.{arith}
 use mathlib.Core.Path.{◌≡◌, refl, sym, subst, ◌∙◌}
-use mathlib.Core.Bool.{true, false}
+use mathlib.Core.Bool.{Bool, true, false, ◌&&◌}
 use mathlib.Core.List.{List, [], ◌∷◌}
-use borrow.Author.Tests.{eq-eqb, ne_eqb}
-use lib.Dec.{ltb}
-use lib.ListN.{length, take, drop, get_or, length-drop}
-use lib.Seq.{take_all}
-use Rattle.plain.specs.Bytes.{LF, CR}
+use lib.Dec.{eqb, ltb}
+use lib.ListN.{length, take, drop, get_or, length-drop, drop_of_length-le}
+use lib.Pointwise.{pointwise}
+use lib.Seq.{drop-cons, take_all}
+use Rattle.std.proofs.Common.{Bor}
+use Rattle.std.specs.Prelude.{Option, None, Some, MatchOption, unwrap_or, if◌then◌else◌}
+use Rattle.plain.specs.Bytes.{CR}
 use Rattle.plain.specs.Runs.{run, past}
 use Rattle.plain.proofs.Each.{Each}
 use Rattle.plain.proofs.Places.{past_after, past-within, take_past}
@@ -31,27 +32,32 @@ use Rattle.bookmark.specs.declared.mark.Entered.{Entered}
 use Rattle.entering.specs.Entries.{entry}
 use Rattle.taking.specs.Marked.{open_of, between}
 use Rattle.entering.specs.Entries.{complete_on}
-use Rattle.entering.specs.Lines.{Ready, Completes}
+use Rattle.entering.specs.Lines.{Completes}
 use Rattle.taking.specs.Taking.{Unbroken, Holds, Ends, Reaches}
 use Rattle.taking.specs.declared.part.Reached.{Reached}
 use Rattle.taking.proofs.Squeezing.{completing-squeezes}
 
 -- ---- bytes without a CR at their end
 
-module _ (bs : List ℕ) where
-  pub without-none : length bs ≤ 0 → bs ≡ without_cr bs
-  without-none = by bs
-    where
-      by : (l : List ℕ) → length l ≤ 0 → l ≡ without_cr l
-      by [] h = refl
-      by (b ∷ l) h = absurd (omega arith)
+without-by : (bs : List ℕ) (n : ℕ) → length bs ≡ suc n → without_cr bs ≡ (if pointwise eqb (drop n bs) (CR ∷ []) then take n bs else bs)
+without-by bs n h = without_cr-last bs n h ∙ rw (drop-cons bs n 0 (omega arith), drop_of_length-le bs {i = suc n} (omega arith)) (by (eqb (get_or bs n 0) CR))
+  where
+    by : (t : Bool) → (if t then take n bs else bs) ≡ (if t && true then take n bs else bs)
+    by true = refl
+    by false = refl
 
-  module _ (h : 0 < length bs) where
-    pub without-last : get_or bs (length bs - 1) 0 ≡ CR → take (length bs - 1) bs ≡ without_cr bs
-    without-last e = sym (without_cr-last bs (length bs - 1) (omega arith) ∙ rw (eq-eqb (get_or bs (length bs - 1) 0) CR e))
-
-    pub without-same : (get_or bs (length bs - 1) 0 ≡ CR → ⊥) → bs ≡ without_cr bs
-    without-same e = sym (without_cr-last bs (length bs - 1) (omega arith) ∙ rw (ne_eqb (get_or bs (length bs - 1) 0) CR e))
+-- what is left where a suffix goes, or all bytes
+pub without-stripped : (bs : Bor (List ℕ)) (left : Option (Bor (List ℕ)))
+    → MatchOption left (pointwise eqb (drop (length bs.now - 1) bs.now) (CR ∷ []) ≡ false) (λ x.
+    (pointwise eqb (drop (length bs.now - 1) bs.now) (CR ∷ []) ≡ true) × (x.now ≡ take (length bs.now - 1) bs.now)
+    × (length x.now + 1 ≡ length bs.now))
+    → (unwrap_or left bs).now ≡ without_cr bs.now
+without-stripped bs None e = same bs.now e
+  where
+    same : (l : List ℕ) → pointwise eqb (drop (length l - 1) l) (CR ∷ []) ≡ false → l ≡ without_cr l
+    same [] e = refl
+    same (b ∷ l) e = sym (without-by (b ∷ l) (length (b ∷ l) - 1) (omega arith) ∙ rw e)
+without-stripped bs (Some x) e = e.1 ∙ sym (without-by bs.now (length bs.now - 1) (omega arith) ∙ rw e.0)
 
 -- ---- bytes of one line
 
@@ -68,10 +74,10 @@ unbroken-run bs e q =
 pub unbroken-rest : (bs : List ℕ) (i : ℕ) → length bs ≤ past line_byte bs i → i ≤ length bs → Unbroken (drop i bs)
 unbroken-rest bs i h g = sym (take_past line_byte bs i) ∙ take_all (past line_byte bs i - i) (drop i bs) (omega (arith, length-drop i bs))
 
-pub holds-none : (b : Bookmark) (bytes : List ℕ) → b.kept.used ≤ ROOM → length bytes ≡ 0 → Holds b bytes b
+pub holds-none : (b : Bookmark) (bytes : List ℕ) → length bytes ≡ 0 → Holds b bytes b
 unfolding fed
-holds-none b [] u e = record { is = λ m. refl; entered = refl; room = u; total = omega arith }
-holds-none b (x ∷ xs) u e = absurd (omega arith)
+holds-none b [] e = record { is = λ m. refl; entered = refl; total = omega arith }
+holds-none b (x ∷ xs) e = absurd (omega arith)
 
 pub holds-run : (b : Bookmark) (bytes : List ℕ) → b.total + length bytes ≤ MOST → Unbroken bytes → (length bytes ≡ 0 → ⊥)
     → (shorn : List ℕ) (k l : Kept) → shorn ≡ without_cr bytes → Settles b.kept b.pending k → Keeps k shorn l
@@ -89,7 +95,6 @@ holds-run b (x ∷ xs) h f g shorn k l e s t =
     record {
       is = λ m. rw (t.is, s.is, e, ← last_cr-longer (x ∷ xs)) (sym (fed-run complete_on (open_of m b) x xs each h));
       entered = refl;
-      room = t.room;
       total = refl;
     }
   where
@@ -98,20 +103,22 @@ holds-run b (x ∷ xs) h f g shorn k l e s t =
 
 -- ---- the LF
 
-pub ends-line : (m : List ℕ) (b : Bookmark) → length b.kept.bytes ≡ ROOM → b.kept.used ≤ ROOM → b.total < MOST
-    → (after : List ℕ) (number : ℕ) (r : Entered) → number ≡ more b.number → Completes m b.entered number (line b.kept) after r
+pub ends-line : (m : List ℕ) (b : Bookmark) → length b.kept.bytes ≡ ROOM → b.total < MOST
+    → (w : 0 ≤ ROOM) (after : List ℕ) (number : ℕ) (r : Entered) → number ≡ more b.number
+    → (kept : List ℕ) → kept ≡ line b.kept → Completes m b.entered number kept after r
     → Ends m b after
     (record {
       entered = r;
       number = number;
       long = b.kept.used;
-      kept = record { bytes = b.kept.bytes; used = 0 };
+      kept = record { bytes = b.kept.bytes; used = 0; within = w };
       pending = false;
       total = b.total + 1;
     })
-ends-line m b a u h after number r e d =
+ends-line m b a h w after number r e kept k f =
+    let d : Completes m b.entered number (line b.kept) after r = subst (λ (l : List ℕ). Completes m b.entered number l after r) k f in
     record {
-      is = sym (fed-LF complete_on (open_of m b) h ∙ rw (line-long b.kept a u, more-is b.total (omega arith), ← e, ← d.is));
+      is = sym (fed-LF complete_on (open_of m b) h ∙ rw (line-long b.kept a, more-is b.total (omega arith), ← e, ← d.is));
       ready = d.ready;
       none = refl;
       settled = refl;
@@ -121,9 +128,6 @@ ends-line m b a u h after number r e d =
 -- ---- lines that lie whole in a part
 
 module _ (m : List ℕ) (e : Entered) (number long : ℕ) (part : List ℕ) where
-  pub reaches-none : Ready m e → Reaches m e number long part m (record { entered = e; number = number; long = long; at = 0 })
-  reaches-none y = record { within = omega arith; ready = y; is = λ bytes h. rw (add-zero bytes) }
-
   module _ (after : List ℕ) (r : Reached) (d : Reaches m e number long part after r) where
     pub reaches-line : (end : ℕ) → end ≡ past line_byte part r.at → end < length part
         → (line : List ℕ) → line ≡ without_cr (take (end - r.at) (drop r.at part))

@@ -4,7 +4,7 @@ use Rattle.layout.specs.Memory.{decode}
 use Rattle.feeding.proofs.Keeping.{Squeezes}
 use Rattle.opening.specs.Storing.{Progress}
 use Rattle.opening.proofs.Squeezing.{complete-squeezes}
-use Rattle.entering.specs.Entries.{Entry, progress_of, entering, complete_on}
+use Rattle.entering.specs.Entries.{progress_of, entering, complete_on}
 
 pub completing-squeezes : Squeezes complete_on
 unfolding complete_on

@@ -2,8 +2,7 @@
 -- Assumes nothing.
 use Prim.Native.Nat.{ℕ, suc, ◌+◌, ◌-◌, ◌≤◌, ◌<◌}
 use native.Mathlib.Omega.{arith}
-use mathlib.Core.Path.{◌≡◌, refl, sym, ap, ◌∙◌}
-use mathlib.Core.Bool.{false}
+use mathlib.Core.Path.{◌≡◌, sym, ap, ◌∙◌}
 use mathlib.Core.List.{List, [], ◌∷◌, ◌++◌}
 use lib.ListN.{length, take, drop, get_or, length-drop, take-append-drop}
 use lib.Seq.{drop-cons, take_all, length-take-le}
@@ -17,51 +16,18 @@ use Rattle.feeding.proofs.Going.{more-is}
 use Rattle.feeding.proofs.Joining.{fed-append, fed-thrice}
 use Rattle.feeding.proofs.LinesAt.{splits}
 use Rattle.bookmark.specs.declared.mark.Bookmark.{Bookmark}
-use Rattle.entering.specs.Entries.{Entry, entry}
-use Rattle.taking.specs.Marked.{open_of, between}
+use Rattle.entering.specs.Entries.{Entry}
+use Rattle.taking.specs.Marked.{open_of}
 use Rattle.entering.specs.Entries.{complete_on}
-use Rattle.taking.specs.Taking.{Fine, Takes, Holds, Ends, Reaches}
-use Rattle.taking.specs.declared.part.Reached.{Reached}
+use Rattle.taking.specs.Taking.{Fine, Takes, Holds, Ends}
 
 -- a part from a place on, as the code lends it
 pub from_place : (bs : List ℕ) (i : ℕ) → i ≤ length bs → take (length bs - i) (drop i bs) ≡ drop i bs
 from_place bs i h = take_all (length bs - i) (drop i bs) (omega (arith, length-drop i bs))
 
--- where nothing is kept and no CR waits
-open-between : (m : List ℕ) (b : Bookmark) → b.kept.used ≡ 0 → b.pending ≡ false
-    → open_of m b ≡ between (entry m b.entered) b.number b.long b.total
-open-between m b u p = rw (u, p)
-
--- ---- whole lines, and the bytes after them
-
-module _ (m : List ℕ) (b : Bookmark) (part after : List ℕ) (r : Reached) (d : Reaches m b.entered b.number b.long part after r) where
-  -- the bookmark where the last line begins
-  abbrev pub reached : Bookmark
-  reached = record { entered = r.entered; number = r.number; long = r.long; kept = b.kept; pending = false; total = b.total + r.at }
-
-  pub takes-on : b.kept.used ≡ 0 → b.pending ≡ false → b.total + length part ≤ MOST
-      → (x : Bookmark) → Holds reached (take (length part - r.at) (drop r.at part)) x → Takes m b part after x
-  takes-on u p h x y =
-      let z = from_place part r.at d.within in
-      record {
-        is = y.is after ∙ ap (fed complete_on (open_of after reached)) z
-            ∙ ap (λ (o : Open Entry). fed complete_on o (drop r.at part)) (open-between after reached u refl)
-            ∙ sym (d.is b.total h) ∙ ap (λ (o : Open Entry). fed complete_on o part) (sym (open-between m b u p));
-        fine = record { ready = rw y.entered d.ready; room = y.room; most = omega (arith, d.within, y.total, ap length z, length-drop r.at part) };
-      }
-
 -- ---- the line that goes on, and what follows it
 
 module _ (m : List ℕ) (b : Bookmark) (part : List ℕ) (e : ℕ) (h : Bookmark) (y : Holds b (take e part) h) where
-  -- no LF came
-  pub takes-held : Fine m b → b.total + length part ≤ MOST → length part ≤ e → Takes m b part m h
-  takes-held f w g =
-      let z = take_all e part g in
-      record {
-        is = y.is m ∙ ap (fed complete_on (open_of m b)) z;
-        fine = record { ready = rw y.entered f.ready; room = y.room; most = omega (arith, y.total, ap length z) };
-      }
-
   pub takes-lines : e ≡ past line_byte part 0 → e < length part
       → (after : List ℕ) (g : Bookmark) → Ends m h after g
       → (later : List ℕ) (r : Bookmark) → Takes after g (take (length part - (e + 1)) (drop (e + 1) part)) later r → Takes m b part later r
@@ -91,7 +57,7 @@ module _ (m : List ℕ) (b : Bookmark) (part : List ℕ) where
         is = counted ∙ sym (fed-over complete_on (open_of after x) (get_or part n 0) (drop (suc n) part) at_most)
             ∙ ap (fed complete_on (open_of after x)) (sym (drop-cons part n 0 g)) ∙ ap (λ (o : Open Entry). fed complete_on o (drop n part)) t.is
             ∙ sym (fed-append complete_on (open_of m b) (take n part) (drop n part)) ∙ ap (fed complete_on (open_of m b)) (take-append-drop n part);
-        fine = record { ready = t.fine.ready; room = t.fine.room; most = omega arith };
+        fine = record { ready = t.fine.ready; most = omega arith };
       }
     where
       n : ℕ

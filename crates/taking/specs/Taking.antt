@@ -4,7 +4,6 @@ use Rattle.std.specs.Prelude.{ℕ, ◌+◌, ◌≤◌, ◌≡◌, false, List, [
 use Rattle.plain.specs.Bytes.{LF}
 use Rattle.plain.specs.Runs.{run}
 use Rattle.value.specs.Classes.{line_byte}
-use Rattle.feeding.specs.Kept.{ROOM}
 use Rattle.feeding.specs.Parts.{MOST, fed}
 use Rattle.bookmark.specs.declared.mark.Entered.{Entered}
 use Rattle.bookmark.specs.declared.mark.Bookmark.{Bookmark}
@@ -17,7 +16,6 @@ use Rattle.taking.specs.declared.part.Reached.{Reached}
 -- the bookmark of an open text that may be fed
 pub record Fine (m : List ℕ) (b : Bookmark) : Type 0 where
   pub ready : Ready m b.entered
-  pub room : b.kept.used ≤ ROOM
   pub most : b.total ≤ MOST + 1
 
 -- the part is fed
@@ -33,7 +31,6 @@ Unbroken bs = run line_byte bs ≡ bs
 pub record Holds (b : Bookmark) (bytes : List ℕ) (r : Bookmark) : Type 0 where
   pub is : (m : List ℕ) → open_of m r ≡ fed complete_on (open_of m b) bytes
   pub entered : r.entered ≡ b.entered
-  pub room : r.kept.used ≤ ROOM
   pub total : r.total ≡ b.total + length bytes
 
 -- an LF is fed, after which nothing is kept

@@ -7,22 +7,16 @@ use feeding::kept::ROOM;
 // The most bytes that a text in parts has: document 02, K5, "with 4,194,304 bytes as the limit here".
 pub const MOST: usize = 4194304;
 
-// One more, but no more than one past the limit.
+// One more, but no more than one past the limit. No `min` serves: a count that is past it stays as it is.
 pub fn more(n: usize) -> usize
     ensures { result ≡ more n }
 {
-    if MOST < n {
-        return n;
-    }
-    n + 1
+    if MOST < n { n } else { n + 1 }
 }
 
 // A length as far as a line is kept.
 pub fn capped(n: usize) -> usize
     ensures { result ≡ capped n }
 {
-    if ROOM < n {
-        return ROOM;
-    }
-    n
+    n.min(ROOM)
 }

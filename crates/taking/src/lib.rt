@@ -15,8 +15,7 @@ pub fn feed_part(pool: &mut [u64], b: &mut Bookmark, part: &[u8])
     requires { Fine pool.old b.old }
     ensures { Takes pool.old b.old part.now pool.new b.new }
 {
-    let before = *b;
-    *b = take_part(pool, before, part);
+    *b = take_part(pool, *b, part);
 }
 
 // The same by value: callers of this one need no walk by hand.

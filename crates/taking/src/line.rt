@@ -1,7 +1,6 @@
 // The line that goes on: document 01, "Lines end at LF; one CR just before it is dropped".
 ghost use Rattle.std.specs.Prelude.{◌≡◌, ◌+◌, ◌≤◌, ◌<◌, length};
 ghost use Rattle.text.specs.Lines.{without_cr};
-ghost use Rattle.feeding.specs.Kept.{ROOM};
 ghost use Rattle.feeding.specs.Parts.{MOST};
 ghost use Rattle.entering.specs.Lines.{Ready};
 ghost use Rattle.taking.specs.Taking.{Unbroken, Holds, Ends};
@@ -9,49 +8,37 @@ ghost use Rattle.taking.specs.Taking.{Unbroken, Holds, Ends};
 use crate::counts::more;
 use bookmark::mark::Bookmark;
 use entering::line::complete_line;
-use feeding::kept;
 use feeding::kept::Kept;
 
 // Bytes of the line that goes on. A CR at their end waits: the byte after it tells whether it is the line's.
 pub fn hold(b: Bookmark, bytes: &[u8]) -> Bookmark
-    requires { (b.kept.used ≤ ROOM) × (b.total + length bytes.now ≤ MOST) × (Unbroken bytes.now) }
+    requires { (b.total + length bytes.now ≤ MOST) × (Unbroken bytes.now) }
     ensures { Holds b bytes.now result }
 {
-    if bytes.len() == 0 {
+    if bytes.is_empty() {
         return b;
     }
-    let entered = b.entered;
-    let kept = b.kept;
     let line = without_cr(bytes);
-    let settled = kept::settle(kept, b.pending);
-    let longer = kept::keep_run(settled, line);
     Bookmark {
-        entered: entered,
-        number: b.number,
-        long: b.long,
-        kept: longer,
+        kept: b.kept.settle(b.pending).keep_run(line),
         pending: line.len() < bytes.len(),
         total: b.total + bytes.len(),
+        ..b
     }
 }
 
 // An LF: what is kept is a complete line.
 pub fn end_line(pool: &mut [u64], b: Bookmark) -> Bookmark
-    requires { (Ready pool.old b.entered) × (b.kept.used ≤ ROOM) × (b.total < MOST) }
+    requires { (Ready pool.old b.entered) × (b.total < MOST) }
     ensures { Ends pool.old b pool.new result }
 {
-    let entered = b.entered;
-    let kept = b.kept;
-    let bytes = kept.bytes;
-    let used = kept.used;
     let number = more(b.number);
-    let completed = complete_line(pool, entered, number, &bytes[..used]);
     Bookmark {
-        entered: completed,
-        number: number,
-        long: used,
+        entered: complete_line(pool, b.entered, number, b.kept.line()),
+        number,
+        long: b.kept.used,
         kept: Kept {
-            bytes: bytes,
+            bytes: b.kept.bytes,
             used: 0,
         },
         pending: false,
@@ -63,11 +50,5 @@ pub fn end_line(pool: &mut [u64], b: Bookmark) -> Bookmark
 pub fn without_cr(bytes: &[u8]) -> &[u8]
     ensures { result.now ≡ without_cr bytes.now }
 {
-    if 0 < bytes.len() {
-        let last = bytes.len() - 1;
-        if bytes[last] == b'\r' {
-            return &bytes[..last];
-        }
-    }
-    bytes
+    bytes.strip_suffix(b"\r").unwrap_or(bytes)
 }

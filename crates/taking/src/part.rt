@@ -32,9 +32,11 @@ pub fn take_part(pool: &mut [u64], b: Bookmark, part: &[u8]) -> Bookmark
     if part.len() <= free {
         return take_all(pool, b, part);
     }
-    let mut full = take_all(pool, b, &part[..free]);
-    full.total = MOST + 1;
-    full
+    let full = take_all(pool, b, &part[..free]);
+    Bookmark {
+        total: MOST + 1,
+        ..full
+    }
 }
 
 // A part that passes no limit: its bytes up to the first LF belong to the line that goes on.
@@ -46,8 +48,7 @@ fn take_all(pool: &mut [u64], b: Bookmark, part: &[u8]) -> Bookmark
     let held = hold(b, &part[..end]);
     if end < part.len() {
         let ended = end_line(pool, held);
-        let next = end + 1;
-        return take_on(pool, ended, &part[next..]);
+        return take_on(pool, ended, &part[end + 1..]);
     }
     held
 }
@@ -57,23 +58,18 @@ fn take_on(pool: &mut [u64], b: Bookmark, part: &[u8]) -> Bookmark
     requires { (Ready pool.old b.entered) × (b.kept.used ≡ 0) × (b.pending ≡ false) × (b.total + length part.now ≤ MOST) }
     ensures { Takes pool.old b part.now pool.new result }
 {
-    let before = b.entered;
-    let kept = b.kept;
-    let reached = take_lines(pool, before, b.number, b.long, part);
-    let after = reached.entered;
-    let at = reached.at;
+    let reached = take_lines(pool, b.entered, b.number, b.long, part);
     let lined = Bookmark {
-        entered: after,
+        entered: reached.entered,
         number: reached.number,
         long: reached.long,
-        kept: kept,
-        pending: false,
-        total: b.total + at,
+        total: b.total + reached.at,
+        ..b
     };
-    hold(lined, &part[at..])
+    hold(lined, &part[reached.at..])
 }
 
-// The whole lines of a part, read where they lie.
+// The whole lines of a part, read where they lie. A `while`, for its place goes on by a line.
 fn take_lines(
     pool: &mut [u64],
     entered: Entered,
@@ -85,23 +81,23 @@ fn take_lines(
     ensures { Reaches pool.old entered number long part.now pool.new result
         × Unbroken (drop result.at part.now) }
 {
-    let mut last = entered;
-    let mut number = number;
-    let mut long = long;
-    let mut at = 0;
-    let mut end = classes::past(Class::Line, part, at);
+    let mut reached = Reached {
+        entered,
+        number,
+        long,
+        at: 0,
+    };
+    let mut end = classes::past(Class::Line, part, 0);
     while end < part.len() {
-        let line = without_cr(&part[at..end]);
-        number = more(number);
-        last = complete_line(pool, last, number, line);
-        long = capped(line.len());
-        at = end + 1;
-        end = classes::past(Class::Line, part, at);
+        let line = without_cr(&part[reached.at..end]);
+        let number = more(reached.number);
+        reached = Reached {
+            entered: complete_line(pool, reached.entered, number, line),
+            number,
+            long: capped(line.len()),
+            at: end + 1,
+        };
+        end = classes::past(Class::Line, part, reached.at);
     }
-    Reached {
-        entered: last,
-        number: number,
-        long: long,
-        at: at,
-    }
+    reached
 }

@@ -9,9 +9,9 @@ use Rattle.taking.specs.Taking.{Reaches}
 use Rattle.taking.proofs.part.take_lines.Given as goal
 
 abbrev pub invariant-loop-end : goal.invariant-loop-end
-invariant-loop-end l = Reaches l.initial.pool l.initial.last l.number-2 l.long-2 l.part l.pool (record { entered = l.last; number = l.number; long = l.long; at = l.at })
-    × (length l.pool ≡ length l.initial.pool)
-    × (l.end ≡ past line_byte l.part l.at)
+invariant-loop-end l =
+    Reaches l.initial.pool l.initial.reached.entered l.number l.long l.part l.pool l.reached × (length l.pool ≡ length l.initial.pool)
+    × (l.end ≡ past line_byte l.part l.reached.at)
 
 abbrev pub decreases-loop-end : goal.decreases-loop-end
-decreases-loop-end l = length l.part - l.at
+decreases-loop-end l = length l.part - l.reached.at
