@@ -1,15 +1,17 @@
--- The answers of open, feed and drop, question by question: 15, then 22 and 1, or 8; a refusal leaves the memory. Assumes nothing.
+-- The answers of open, feed and drop, question by question: the pool is not ready for the call, and then 1 of an opening; a refusal leaves the
+-- memory. Assumes nothing.
 use Prim.Native.Nat.{ℕ}
 use mathlib.Core.Path.{◌≡◌, sym}
 use mathlib.Core.Bool.{true, false}
 use mathlib.Core.List.{List}
+use Rattle.std.specs.Prelude.{Ok, Err, if◌then◌else◌}
 use Rattle.refusal.specs.declared.Refusal.{Refusal}
-use Rattle.refusal.specs.declared.Refusal.TheVariants.{LabelHeld, NotHeld, DamagedPool, TextOpen}
-use Rattle.layout.specs.Memory.{decode, opens, open_label}
-use Rattle.layout.specs.Damage.{sound}
+use Rattle.refusal.specs.declared.Refusal.TheVariants.{LabelHeld}
+use Rattle.layout.specs.Memory.{decode, open_label}
 use Rattle.pool.specs.Held.{held}
+use Rattle.pool.specs.Ready.{with_none_open, with_one_open}
 use Rattle.pool.specs.Replies.{refusing}
-use Rattle.pool.specs.declared.reply.Reply.TheVariants.{Done}
+use Rattle.pool.proofs.Tested.{closed-sound, closed-shut, closed-refused, open-sound, open-opens, open-refused}
 use Rattle.feeding.specs.Parts.{fed}
 use Rattle.entering.specs.Entries.{complete_on}
 use Rattle.intake.specs.Opened.{open_in, stowed, beginning, shut}
@@ -22,67 +24,46 @@ module _ (label : ℕ) (m : List ℕ) where
   unfolding open_memory
   open-refuses q e = record { reply = sym e; memory = rw e }
 
-  pub open-damaged : sound m ≡ false → Opens label m (refusing DamagedPool) m
+  pub open-unready : (q : Refusal) → with_none_open m ≡ Err q → Opens label m (refusing q) m
   unfolding open_reply
-  open-damaged e = open-refuses DamagedPool (rw e)
+  open-unready q e = open-refuses q (closed-refused m q (if held label (decode m) then refusing LabelHeld else Ok tt) e)
 
-  module _ (e : sound m ≡ true) where
-    pub open-second : opens m ≡ true → Opens label m (refusing TextOpen) m
+  module _ (e : with_none_open m ≡ Ok tt) where
+    pub open-held : held label (decode m) ≡ true → Opens label m (refusing LabelHeld) m
     unfolding open_reply
-    open-second o = open-refuses TextOpen (rw (e, o))
+    open-held h = open-refuses LabelHeld (rw (closed-sound m e, closed-shut m e, h))
 
-    module _ (o : opens m ≡ false) where
-      pub open-held : held label (decode m) ≡ true → Opens label m (refusing LabelHeld) m
-      unfolding open_reply
-      open-held h = open-refuses LabelHeld (rw (e, o, h))
+    open-answers : held label (decode m) ≡ false → open_reply label m ≡ Ok tt
+    unfolding open_reply
+    open-answers h = rw (closed-sound m e, closed-shut m e, h)
 
-      open-answers : held label (decode m) ≡ false → open_reply label m ≡ Done
-      unfolding open_reply
-      open-answers h = rw (e, o, h)
-
-      pub open_done : held label (decode m) ≡ false → (after : List ℕ) → after ≡ stowed label (beginning m) → Opens label m Done after
-      unfolding open_memory
-      open_done h after p = let d = open-answers h in record { reply = sym d; memory = rw d p }
+    pub open_done : held label (decode m) ≡ false → (after : List ℕ) → after ≡ stowed label (beginning m) → Opens label m (Ok tt) after
+    unfolding open_memory
+    open_done h after p = let d = open-answers h in record { reply = sym d; memory = rw d p }
 
 -- ---- feed and drop
 
 module _ (m : List ℕ) where
-  feed-none : sound m ≡ true → opens m ≡ false → feed_reply m ≡ refusing NotHeld
+  feed-refused : (q : Refusal) → with_one_open m ≡ Err q → feed_reply m ≡ refusing q
   unfolding feed_reply
-  feed-none e o = rw (e, o)
+  feed-refused q e = open-refused m q (Ok tt) e
 
-  feed-damage : sound m ≡ false → feed_reply m ≡ refusing DamagedPool
+  feed-answers : with_one_open m ≡ Ok tt → feed_reply m ≡ Ok tt
   unfolding feed_reply
-  feed-damage e = rw e
+  feed-answers e = rw (open-sound m e, open-opens m e)
 
-  feed-answers : sound m ≡ true → opens m ≡ true → feed_reply m ≡ Done
-  unfolding feed_reply
-  feed-answers e o = rw (e, o)
-
-  feed-refuses : (part : List ℕ) (q : Refusal) → feed_reply m ≡ refusing q → Feeds part m (refusing q) m
+  pub feed-unready : (part : List ℕ) (q : Refusal) → with_one_open m ≡ Err q → Feeds part m (refusing q) m
   unfolding feed_memory
-  feed-refuses part q e = record { reply = sym e; memory = rw e }
+  feed-unready part q e = let r = feed-refused q e in record { reply = sym r; memory = rw r }
 
-  pub feed-damaged : (part : List ℕ) → sound m ≡ false → Feeds part m (refusing DamagedPool) m
-  feed-damaged part e = feed-refuses part DamagedPool (feed-damage e)
-
-  pub feed-shut : (part : List ℕ) → sound m ≡ true → opens m ≡ false → Feeds part m (refusing NotHeld) m
-  feed-shut part e o = feed-refuses part NotHeld (feed-none e o)
-
-  pub feed-done : (part : List ℕ) → sound m ≡ true → opens m ≡ true → (after : List ℕ) → after ≡ stowed (open_label m) (fed complete_on (open_in m) part) → Feeds part m Done after
+  pub feed-done : (part : List ℕ) → with_one_open m ≡ Ok tt → (after : List ℕ) → after ≡ stowed (open_label m) (fed complete_on (open_in m) part) → Feeds part m (Ok tt) after
   unfolding feed_memory
-  feed-done part e o after p = let d = feed-answers e o in record { reply = sym d; memory = rw d p }
+  feed-done part e after p = let d = feed-answers e in record { reply = sym d; memory = rw d p }
 
-  drop-refuses : (q : Refusal) → feed_reply m ≡ refusing q → Drops m (refusing q) m
+  pub drop-unready : (q : Refusal) → with_one_open m ≡ Err q → Drops m (refusing q) m
   unfolding drop_memory
-  drop-refuses q e = record { reply = sym e; memory = rw e }
+  drop-unready q e = let r = feed-refused q e in record { reply = sym r; memory = rw r }
 
-  pub drop-damaged : sound m ≡ false → Drops m (refusing DamagedPool) m
-  drop-damaged e = drop-refuses DamagedPool (feed-damage e)
-
-  pub drop-shut : sound m ≡ true → opens m ≡ false → Drops m (refusing NotHeld) m
-  drop-shut e o = drop-refuses NotHeld (feed-none e o)
-
-  pub drop-done : sound m ≡ true → opens m ≡ true → (after : List ℕ) → after ≡ shut m → Drops m Done after
+  pub drop-done : with_one_open m ≡ Ok tt → (after : List ℕ) → after ≡ shut m → Drops m (Ok tt) after
   unfolding drop_memory
-  drop-done e o after p = let d = feed-answers e o in record { reply = sym d; memory = rw d p }
+  drop-done e after p = let d = feed-answers e in record { reply = sym d; memory = rw d p }

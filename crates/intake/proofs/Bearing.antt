@@ -7,7 +7,7 @@ use mathlib.Core.Bool.{Bool, true, false}
 use mathlib.Core.List.{List, [], ◌∷◌, ◌++◌}
 use borrow.Author.Tests.{eqb-true}
 use lib.Dec.{eqb}
-use Rattle.value.specs.declared.faults.Fault.{Fault}
+use Rattle.text.specs.declared.TextFault.{TextFault}
 use Rattle.statement.specs.Statements.{Values, numbers, strings, Statement, how_many}
 use Rattle.statement.specs.declared.values.Kind.{Kind}
 use Rattle.statement.specs.declared.values.Kind.TheVariants as K
@@ -18,7 +18,7 @@ use Rattle.bookmark.specs.Borne.{list_of, settled_reader}
 use Rattle.bookmark.specs.declared.mark.Entered.{Entered}
 use Rattle.bookmark.specs.declared.mark.Standing.{Standing}
 use Rattle.bookmark.specs.declared.mark.Standing.TheVariants as S
-use Rattle.entering.specs.Lines.{Fills, Listing, Bears, Borne}
+use Rattle.entering.specs.Lines.{Fills, Bears, Borne}
 use Rattle.intake.specs.Opened.{is_strings, is_place, borne_reader, borne_standing, borne}
 
 -- ---- borne out
@@ -54,7 +54,7 @@ bears-settled (x ∷ y ∷ ss) r = bears-behind x (borne_reader (y ∷ ss) r) (y
 pub borne-settled : (ss : List Statement) (t : Standing) → Borne (borne_standing ss t) ss
 borne-settled ss (S.Storing r) = bears-settled ss r
 borne-settled ss (S.Overflowed r) = tt
-borne-settled ss (S.Faulted q n k) = tt
+borne-settled ss (S.Faulted f) = tt
 
 -- ---- by the statement stored last
 
@@ -101,5 +101,5 @@ module _ (ss : List Statement) (e : Entered) where
   pub borne-overflowed : (r : Reader) → e.standing ≡ S.Overflowed r → e ≡ borne ss e
   borne-overflowed r h = borne-same (ap (borne_standing ss) h ∙ sym h)
 
-  pub borne-faulted : (q : Fault) (n k : ℕ) → e.standing ≡ S.Faulted q n k → e ≡ borne ss e
-  borne-faulted q n k h = borne-same (ap (borne_standing ss) h ∙ sym h)
+  pub borne-faulted : (f : TextFault) → e.standing ≡ S.Faulted f → e ≡ borne ss e
+  borne-faulted f h = borne-same (ap (borne_standing ss) h ∙ sym h)

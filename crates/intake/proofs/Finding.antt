@@ -6,7 +6,7 @@ use mathlib.Core.Path.{◌≡◌, refl, sym, ap, subst, ◌∙◌}
 use mathlib.Core.Bool.{true}
 use mathlib.Core.List.{List, [], ◌∷◌, ◌++◌, map}
 use lib.Dec.{lit<}
-use lib.ListN.{length, take, drop, get_or, length-append}
+use lib.ListN.{length, drop, get_or, length-append}
 use lib.Seq.{get_or-take, get_or-drop}
 use Rattle.plain.proofs.Each.{Each, each_right}
 use Rattle.statement.specs.Statements.{Statement}
@@ -25,7 +25,7 @@ use Rattle.layout.proofs.Changes.{ink-same, ink-behind}
 use Rattle.layout.proofs.Codec.{length-laid-names}
 use Rattle.layout.proofs.Columns.{At, at_left, at_right, Stands, flat_append, flat_map}
 use Rattle.layout.proofs.Holds.{per_statement, inked_at, length-laid-heads}
-use Rattle.layout.proofs.Legal.{Fair, Legal, FitsIn, program-last}
+use Rattle.layout.proofs.Legal.{Fair, program-last}
 use Rattle.layout.proofs.Sound.{sound-of, sound-open, of-orderly}
 use Rattle.behind.proofs.Merged.{length-body, open-legal}
 use Rattle.behind.proofs.Laid.{Laid, values-both, bytes-both, open-laid}
@@ -36,8 +36,7 @@ use Rattle.bookmark.specs.declared.mark.Bookmark.{Bookmark}
 use Rattle.bookmark.specs.declared.mark.Entered.{Entered}
 use Rattle.bookmark.specs.declared.mark.Standing.{Standing}
 use Rattle.opening.proofs.Fitting.{Fitted, of-fitted}
-use Rattle.opening.proofs.Storable.{Storable}
-use Rattle.entering.specs.Entries.{entry, body_of, progress_of}
+use Rattle.entering.specs.Entries.{entry}
 use Rattle.entering.specs.Lines.{Borne, Ready}
 use Rattle.taking.specs.Marked.{open_of}
 use Rattle.intake.specs.Opened.{telling, borne_standing, borne}
@@ -170,7 +169,6 @@ module _ (m : List ℕ) (e : sound m ≡ true) (o : opens m ≡ true) (ws : List
               ∙ ap (telling (λ (y : Entered). entry m (borne (open_body m) y))) (r.is ∙ (λ i. read_open (q i) (p i)));
           fine = record {
             ready = subst (Ready m) (sym k) (open-ready m e o w t (borne-settled (open_body m) b.entered.standing));
-            room = r.room;
             most = omega (arith, total=, (sound-open m e o).counted);
           };
         }

@@ -1,5 +1,5 @@
 -- The last head and the last value of an open text tell all that its reader needs to know of the statement stored last. Assumes nothing.
-use Prim.Native.Nat.{ℕ, ◌+◌, ◌-◌, ◌/◌, ◌%◌, ◌≤◌, ◌<◌}
+use Prim.Native.Nat.{ℕ, ◌+◌, ◌-◌, ◌/◌, ◌%◌, ◌≤◌}
 use native.Mathlib.Omega.{arith}
 use mathlib.Core.Path.{◌≡◌, refl, sym, ap, subst, ◌∙◌}
 use mathlib.Core.Bool.{Bool, true, false}
@@ -8,11 +8,11 @@ use lib.Dec.{eqb, lit<}
 use lib.ListN.{length, drop, get_or, length-append}
 use lib.Seq.{get_or-take, get_or-drop}
 use Rattle.plain.proofs.Each.{Each, each_right}
-use Rattle.statement.specs.Statements.{Values, Statement, how_many}
+use Rattle.statement.specs.Statements.{Statement, how_many}
 use Rattle.statement.specs.declared.values.Reader.{Reader}
 use Rattle.words.specs.Halves.{HALF, upper, lower}
 use Rattle.words.proofs.Each.{Words}
-use Rattle.layout.specs.State.{Pool, program, flat, values_of, words_of, values}
+use Rattle.layout.specs.State.{program, flat, values_of, words_of}
 use Rattle.layout.specs.Limits.{HEADS_AT, VALUES_AT}
 use Rattle.layout.specs.Memory.{statement_count, value_count, decode, open_body, open_text, head_word, kind_number}
 use Rattle.layout.proofs.Codec.{Short, each-short, head-kind, head-count}

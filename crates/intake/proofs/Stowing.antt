@@ -2,7 +2,7 @@
 -- Assumes nothing.
 use Prim.Native.Nat.{ℕ, ◌+◌, ◌<◌}
 use native.Mathlib.Omega.{arith}
-use mathlib.Core.Path.{◌≡◌, sym, ap, ◌∙◌}
+use mathlib.Core.Path.{◌≡◌, ap, ◌∙◌}
 use mathlib.Core.Bool.{true}
 use mathlib.Core.List.{List, [], ◌∷◌}
 use lib.ListN.{get_or}
@@ -35,7 +35,6 @@ stowable-begun m label b e l g = record {
   sizes = (sound-of m e).sizes;
   few = omega (arith, ap (λ (o : Open Entry). o.progress.entered.statements) (g.is m));
   short = l;
-  room = g.room;
 }
 
 pub begun-stowed : (m : List ℕ) (label : ℕ) (b : Bookmark) → Begins b → (last : List ℕ) → last ≡ stowed label (open_of m b) → last ≡ stowed label (beginning m)
@@ -51,7 +50,6 @@ stowable-fed m label b l f = record {
   sizes = (ordered m b.entered f.ready).sizes;
   few = omega (arith, (fitted m b.entered f.ready).statements, f.ready.statements);
   short = l;
-  room = f.room;
 }
 
 pub fed-stowed : (m part : List ℕ) (b : Bookmark) → Finds m b → (after : List ℕ) (r : Bookmark) → Takes m b part after r

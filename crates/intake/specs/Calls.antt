@@ -1,14 +1,12 @@
 -- "Let a load be opened under a label, fed with parts of any length, also of none, and closed." "An open one can be dropped". "Refusals: 22 TEXT OPEN,
 -- for .. opening .. while one is open, stands after 15 (opening then gives 1); feeding, closing or dropping with none open is 8." Definitions only.
-use Rattle.std.specs.Prelude.{ℕ, ◌≡◌, Bool, ◌&&◌, List, ltb, if◌then◌else◌}
+use Rattle.std.specs.Prelude.{ℕ, ◌≡◌, Bool, ◌&&◌, List, Ok, ltb, if◌then◌else◌}
 use Rattle.refusal.specs.declared.Refusal.TheVariants.{LabelHeld, NotHeld, DamagedPool, TextOpen}
 use Rattle.words.specs.Halves.{all}
 use Rattle.layout.specs.Memory.{decode, put, opens, open_label}
 use Rattle.layout.specs.Damage.{sound}
 use Rattle.pool.specs.Held.{held}
-use Rattle.pool.specs.Replies.{done, refusing}
-use Rattle.pool.specs.declared.reply.Reply.{Reply}
-use Rattle.pool.specs.declared.reply.Reply.TheVariants.{Done}
+use Rattle.pool.specs.Replies.{Reply, done, refusing}
 use Rattle.feeding.specs.Parts.{fed}
 use Rattle.opening.specs.Closing.{close_answer, closed_pool}
 use Rattle.entering.specs.Entries.{complete_on}
@@ -20,7 +18,7 @@ unfoldable pub open_reply : (label : ℕ) (m : List ℕ) → Reply
 unfolding held
 open_reply label m =
     if sound m
-    then (if opens m then refusing TextOpen else (if held label (decode m) then refusing LabelHeld else Done))
+    then (if opens m then refusing TextOpen else (if held label (decode m) then refusing LabelHeld else Ok tt))
     else refusing DamagedPool
 
 unfoldable pub open_memory : (label : ℕ) (m : List ℕ) → List ℕ
@@ -34,7 +32,7 @@ abbrev pub are_bytes : List ℕ → Bool
 are_bytes bs = all (λ b. ltb b 256) bs
 
 unfoldable pub feed_reply : (m : List ℕ) → Reply
-feed_reply m = if sound m then (if opens m then Done else refusing NotHeld) else refusing DamagedPool
+feed_reply m = if sound m then (if opens m then Ok tt else refusing NotHeld) else refusing DamagedPool
 
 unfoldable pub feed_memory : (part m : List ℕ) → List ℕ
 unfolding feed_reply fed complete_on

@@ -42,7 +42,7 @@ borne_reader (s ∷ t ∷ ss) r = borne_reader (t ∷ ss) r
 abbrev pub borne_standing : List Statement → Standing → Standing
 borne_standing body (S.Storing r) = S.Storing (borne_reader body r)
 borne_standing body (S.Overflowed r) = S.Overflowed r
-borne_standing body (S.Faulted q line place) = S.Faulted q line place
+borne_standing body (S.Faulted f) = S.Faulted f
 
 abbrev pub borne : List Statement → Entered → Entered
 borne body e =

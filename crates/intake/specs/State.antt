@@ -1,11 +1,10 @@
 -- The open text of a memory as the code has it. Definitions only.
-use Rattle.std.specs.Prelude.{ℕ, ◌+◌, ◌≤◌, ◌<◌, ◌≡◌, true, List, length}
+use Rattle.std.specs.Prelude.{ℕ, ◌+◌, ◌≤◌, ◌<◌, ◌≡◌, true, List}
 use Rattle.words.specs.Halves.{HALF}
 use Rattle.layout.specs.Limits.{STATEMENTS, VALUES}
 use Rattle.layout.specs.Memory.{statement_count, value_count, opens, open_statements, open_values}
 use Rattle.layout.specs.Damage.{Framed, sound}
 use Rattle.layout.specs.Totals.{Behind}
-use Rattle.feeding.specs.Kept.{ROOM}
 use Rattle.bookmark.specs.declared.mark.Bookmark.{Bookmark}
 use Rattle.bookmark.specs.declared.mark.Entered.{Entered}
 use Rattle.taking.specs.Marked.{open_of}
@@ -36,9 +35,7 @@ pub record Stowable (m : List ℕ) (label : ℕ) (b : Bookmark) : Type 0 where
   pub sizes : Framed m
   pub few : b.entered.statements < HALF
   pub short : label < HALF
-  pub room : b.kept.used ≤ ROOM
 
 -- of a text that was just opened
 pub record Begins (r : Bookmark) : Type 0 where
   pub is : (m : List ℕ) → open_of m r ≡ beginning m
-  pub room : r.kept.used ≤ ROOM

@@ -5,34 +5,28 @@ ghost use Rattle.intake.specs.State.{Begins};
 use crate::state::stow;
 use bookmark::mark::{Bookmark, Entered, Standing};
 use feeding::kept::Kept;
-use layout::check::{is_open, is_sound};
 use pool::held::is_held;
-use pool::reply::Reply;
+use pool::ready::test_closed;
+use pool::reply::Refused;
 use refusal::Refusal;
 use statement::values::Reader;
 
 // Nothing of the text came yet; what is held stays as it was.
-pub fn open_text(pool: &mut [u64], label: u32) -> Reply
+pub fn open_text(pool: &mut [u64], label: u32) -> Result<(), Refused>
     ensures { Opens label pool.old result pool.new }
 {
-    if !is_sound(pool) {
-        return Reply::Refused(Refusal::DamagedPool, 0, 0);
-    }
-    if is_open(pool) {
-        return Reply::Refused(Refusal::TextOpen, 0, 0);
-    }
+    test_closed(pool)?;
     if is_held(pool, label) {
-        return Reply::Refused(Refusal::LabelHeld, 0, 0);
+        return Err(Refusal::LabelHeld.into());
     }
     stow(pool, label as u64, beginning());
-    Reply::Done
+    Ok(())
 }
 
 // "A text opens in a text section."
 fn beginning() -> Bookmark
     ensures { Begins result }
 {
-    let bytes = [0u8; 133];
     Bookmark {
         entered: Entered {
             standing: Standing::Storing(Reader::Text),
@@ -43,7 +37,7 @@ fn beginning() -> Bookmark
         number: 0,
         long: 0,
         kept: Kept {
-            bytes: bytes,
+            bytes: [0; 133],
             used: 0,
         },
         pending: false,

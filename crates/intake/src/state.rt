@@ -28,16 +28,10 @@ pub fn open_in(pool: &[u64]) -> Bookmark
     let texts = pool[TEXT_COUNT] as usize;
     let statements = (pool[TEXTS_AT + texts] % HALF) as usize;
     let b = read(part_of(pool, OPEN_AT, OPENWORDS), statements);
-    let entered = b.entered;
-    let kept = b.kept;
-    let settled = borne(pool, entered);
+    let settled = borne(pool, b.entered);
     Bookmark {
         entered: settled,
-        number: b.number,
-        long: b.long,
-        kept: kept,
-        pending: b.pending,
-        total: b.total,
+        ..b
     }
 }
 
@@ -46,16 +40,13 @@ fn borne(pool: &[u64], entered: Entered) -> Entered
     requires { Counts pool.now entered }
     ensures { result ≡ borne (open_body pool.now) entered }
 {
-    let standing = entered.standing;
-    match standing {
+    match entered.standing {
         Standing::Storing(reader) => Entered {
             standing: Standing::Storing(borne_reader(pool, entered, reader)),
-            statements: entered.statements,
-            values: entered.values,
-            bytes: entered.bytes,
+            ..entered
         },
         Standing::Overflowed(_) => entered,
-        Standing::Faulted(_, _, _) => entered,
+        Standing::Faulted(_) => entered,
     }
 }
 
@@ -94,11 +85,10 @@ pub fn stow(pool: &mut [u64], label: u64, b: Bookmark)
     ensures { pool.new ≡ stowed label (open_of pool.old b) }
 {
     let texts = pool[TEXT_COUNT] as usize;
-    let entered = b.entered;
     store(
         pool,
         TEXTS_AT + texts,
-        label * HALF + (entered.statements as u64),
+        label * HALF + (b.entered.statements as u64),
     );
     write(pool, OPEN_AT, b);
 }

@@ -1,28 +1,23 @@
--- `open_text` meets its contract: each question in its order, and then the words of a text of which nothing came are written. Assumes nothing.
+-- `open_text` meets its contract: the tests are asked first, then whether the label is held, and then the words of a text of which nothing came are written. Assumes nothing.
 use native.Mathlib.Omega.{arith}
 use mathlib.Core.Path.{sym, ◌∙◌}
 use Rattle.layout.proofs.Sound.{sound-of}
-use Rattle.intake.proofs.Answers.{open-damaged, open-second, open-held, open_done}
+use Rattle.pool.proofs.Tested.{passed_on, closed-sound}
+use Rattle.intake.proofs.Answers.{open-unready, open-held, open_done}
 use Rattle.intake.proofs.Stowing.{stowable-begun, begun-stowed}
 use Rattle.intake.proofs.begin.open_text.Goals as goal
 
-pub returns-then-not-is_sound : goal.returns-then-not-is_sound
-returns-then-not-is_sound c = open-damaged _ _ (sym c.is_sound.ensures ∙ c.if-not-is_sound.true)
-
-pub is_open-requires : goal.is_open-requires
-is_open-requires c = omega (arith, (sound-of _ (sym c.is_sound.ensures ∙ c.if-not-is_sound.false)).sizes.words)
-
-pub returns-then-is_open : goal.returns-then-is_open
-returns-then-is_open c = open-second _ _ (sym c.is_sound.ensures ∙ c.if-not-is_sound.false) (sym c.is_open.ensures ∙ c.if-is_open.true)
+pub returns-in_err-test_closed : goal.returns-in_err-test_closed
+returns-in_err-test_closed c = rw (passed_on c.from_residual.result c.from_residual.ensures.1) (open-unready _ _ _ (sym c.in_err-test_closed.ensures))
 
 pub is_held-requires : goal.is_held-requires
-is_held-requires c = (sound-of _ (sym c.is_sound.ensures ∙ c.if-not-is_sound.false)).sizes
+is_held-requires c = (sound-of _ (closed-sound _ (sym c.in_ok-test_closed.ensures))).sizes
 
 pub returns-then-is_held : goal.returns-then-is_held
-returns-then-is_held c = open-held _ _ (sym c.is_sound.ensures ∙ c.if-not-is_sound.false) (sym c.is_open.ensures ∙ c.if-is_open.false) (sym c.is_held.ensures ∙ c.if-is_held.true)
+returns-then-is_held c = rw c.into.ensures (open-held _ _ (sym c.in_ok-test_closed.ensures) (sym c.is_held.ensures ∙ c.if-is_held.true))
 
 pub stow-requires : goal.stow-requires
-stow-requires c = stowable-begun _ _ _ (sym c.is_sound.ensures ∙ c.if-not-is_sound.false) (omega (arith, c.ranges.label)) c.beginning.ensures
+stow-requires c = stowable-begun _ _ _ (closed-sound _ (sym c.in_ok-test_closed.ensures)) (omega (arith, c.ranges.label)) c.beginning.ensures
 
 pub returns : goal.returns
-returns c = open_done _ _ (sym c.is_sound.ensures ∙ c.if-not-is_sound.false) (sym c.is_open.ensures ∙ c.if-is_open.false) (sym c.is_held.ensures ∙ c.if-is_held.false) _ (begun-stowed c.args.pool.now c.args.label _ c.beginning.ensures _ c.stow.ensures)
+returns c = open_done _ _ (sym c.in_ok-test_closed.ensures) (sym c.is_held.ensures ∙ c.if-is_held.false) _ (begun-stowed c.args.pool.now c.args.label _ c.beginning.ensures _ c.stow.ensures)

@@ -1,18 +1,11 @@
--- `drop_text` meets its contract: each question in its order, and then one word is written. Assumes nothing.
-use native.Mathlib.Omega.{arith}
-use mathlib.Core.Path.{sym, ◌∙◌}
-use Rattle.layout.proofs.Sound.{sound-of}
-use Rattle.intake.proofs.Answers.{drop-damaged, drop-shut, drop-done}
+-- `drop_text` meets its contract: the tests are asked first, and then one word is written. Assumes nothing.
+use mathlib.Core.Path.{sym}
+use Rattle.pool.proofs.Tested.{passed_on}
+use Rattle.intake.proofs.Answers.{drop-unready, drop-done}
 use Rattle.intake.proofs.parts.drop_text.Goals as goal
 
-pub returns-then-not-is_sound : goal.returns-then-not-is_sound
-returns-then-not-is_sound c = drop-damaged _ (sym c.is_sound.ensures ∙ c.if-not-is_sound.true)
-
-pub is_open-requires : goal.is_open-requires
-is_open-requires c = omega (arith, (sound-of _ (sym c.is_sound.ensures ∙ c.if-not-is_sound.false)).sizes.words)
-
-pub returns-then-not-is_open : goal.returns-then-not-is_open
-returns-then-not-is_open c = drop-shut _ (sym c.is_sound.ensures ∙ c.if-not-is_sound.false) (sym c.is_open.ensures ∙ c.if-not-is_open.true)
+pub returns-in_err-test_open : goal.returns-in_err-test_open
+returns-in_err-test_open c = rw (passed_on c.from_residual.result c.from_residual.ensures.1) (drop-unready _ _ (sym c.in_err-test_open.ensures))
 
 pub returns : goal.returns
-returns c = drop-done _ (sym c.is_sound.ensures ∙ c.if-not-is_sound.false) (sym c.is_open.ensures ∙ c.if-not-is_open.false) _ c.store.ensures
+returns c = drop-done _ (sym c.in_ok-test_open.ensures) _ c.store.ensures

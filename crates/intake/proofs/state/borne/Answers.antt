@@ -10,4 +10,4 @@ pub returns-in-Overflowed : goal.returns-in-Overflowed
 returns-in-Overflowed c = borne-overflowed (open_body c.args.pool.now) c.args.entered _ c.in-Overflowed.is
 
 pub returns-in-Faulted : goal.returns-in-Faulted
-returns-in-Faulted c = borne-faulted (open_body c.args.pool.now) c.args.entered _ _ _ c.in-Faulted.is
+returns-in-Faulted c = borne-faulted (open_body c.args.pool.now) c.args.entered _ c.in-Faulted.is
