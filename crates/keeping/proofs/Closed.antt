@@ -10,7 +10,7 @@ use Rattle.layout.specs.Limits.{OPEN_AT, room}
 use Rattle.layout.specs.Memory.{decode, put, opens, open_label, NONE_OPEN}
 use Rattle.layout.specs.Damage.{sound}
 use Rattle.layout.proofs.Areas.{get_d_over}
-use Rattle.layout.proofs.Holds.{decode-fits, decode-legal, decode-put, put-closed, put-sound}
+use Rattle.layout.proofs.Holds.{decode-legal, decode-put, put-sound}
 use Rattle.layout.proofs.Legal.{Fits, Legal, fits-of, legal-add}
 use Rattle.layout.proofs.Sound.{sound-of, of-sound}
 use Rattle.loading.specs.Load.{with}

@@ -17,8 +17,7 @@ use Rattle.layout.specs.State.{Pool}
 use Rattle.layout.specs.Limits.{TEXTS}
 use Rattle.layout.specs.Memory.{decode, opens}
 use Rattle.layout.specs.Damage.{sound}
-use Rattle.pool.specs.Replies.{reply_line, reply_column, refusing}
-use Rattle.pool.specs.declared.reply.Reply.{Reply}
+use Rattle.pool.specs.Replies.{Reply, reply_line, reply_column, refusing}
 use Rattle.feeding.specs.Kept.{ROOM, settled}
 use Rattle.feeding.specs.Parts.{MOST, Open, Ended, more, lastly}
 use Rattle.feeding.proofs.Going.{settled-room}
@@ -28,8 +27,6 @@ use Rattle.bookmark.proofs.Numbered.{InLine}
 use Rattle.opening.specs.Storing.{Progress, complete}
 use Rattle.opening.specs.Closing.{at_end, end_reply, closed, close_answer}
 use Rattle.intake.specs.Opened.{state_in}
-use Rattle.keeping.proofs.Kept.{Kept}
-use Rattle.keeping.proofs.Numbers.{Numbers}
 use Rattle.keeping.proofs.Places.{in-line}
 use Rattle.keeping.proofs.ReadOpened.{open_kept, open-numbers}
 
@@ -76,7 +73,7 @@ end-near (R.List k) number long fits n l = record { line = n; column = omega ari
 standing-near : (s : Pool) (t : Standing) (number long : ℕ) → InLine t → number ≤ MOST + 1 → long ≤ ROOM → Near (end_reply s t number long)
 standing-near s (S.Storing r) number long i n l = end-near r number long (ltb (length s) TEXTS) n l
 standing-near s (S.Overflowed r) number long i n l = end-near r number long false n l
-standing-near s (S.Faulted q line place) number long i n l = record { line = i.0; column = omega (arith, i.1) }
+standing-near s (S.Faulted f) number long i n l = record { line = i.0; column = omega (arith, i.1) }
 
 module _ (m : List ℕ) (e : sound m ≡ true) (o : opens m ≡ true) where
   pub end-pointing : Pointing (closed (decode m) (state_in m))

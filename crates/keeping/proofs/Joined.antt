@@ -6,7 +6,7 @@ use mathlib.Core.Path.{◌≡◌, refl, sym, ap, ap₂, subst, ◌∙◌}
 use mathlib.Core.Bool.{Bool, true, false}
 use mathlib.Core.List.{List, [], ◌∷◌, ◌++◌, map}
 use lib.ListN.{length}
-use Rattle.std.specs.Prelude.{if◌then◌else◌}
+use Rattle.std.specs.Prelude.{Ok, if◌then◌else◌}
 use Rattle.plain.proofs.Tests.{true-false}
 use Rattle.refusal.specs.declared.Refusal.TheVariants.{NotHeld, DamagedPool}
 use Rattle.statement.specs.Statements.{Statement}
@@ -21,7 +21,6 @@ use Rattle.layout.specs.Memory.{text_count, decode, opens, open_label, head_word
 use Rattle.layout.specs.Damage.{sound}
 use Rattle.layout.proofs.Holds.{inked_at, length-decode}
 use Rattle.pool.specs.Replies.{done, refusing}
-use Rattle.pool.specs.declared.reply.Reply.TheVariants.{Done}
 use Rattle.feeding.specs.Parts.{Open, fed}
 use Rattle.feeding.proofs.Joining.{fed-append}
 use Rattle.bookmark.specs.Words.{open_words}
@@ -116,7 +115,7 @@ pub unfed : (part m : List ℕ) → (sound m ≡ true → opens m ≡ true → �
 unfolding feed_memory feed_reply
 unfed part m n = by (sound m) (opens m) n
   where
-    by : (t u : Bool) → (t ≡ true → u ≡ true → ⊥) → (if done (if t then (if u then Done else refusing NotHeld) else refusing DamagedPool) then stowed (open_label m) (fed complete_on (open_in m) part) else m) ≡ m
+    by : (t u : Bool) → (t ≡ true → u ≡ true → ⊥) → (if done (if t then (if u then Ok tt else refusing NotHeld) else refusing DamagedPool) then stowed (open_label m) (fed complete_on (open_in m) part) else m) ≡ m
     by true true h = absurd (h refl refl)
     by true false h = refl
     by false u h = refl

@@ -65,7 +65,7 @@ module _ (s : Pool) (number : ℕ) where
       by : (body : List Statement) (t : Standing) → Borne t body → Borne (by_standing s body t number line).standing (by_standing s body t number line).body
       by body (S.Storing r) d = borne-line r body line d (answered r line) refl
       by body (S.Overflowed r) d = borne-lost body (answered r line)
-      by body (S.Faulted q n k) d = tt
+      by body (S.Faulted f) d = tt
 
 -- ---- statements laid behind what is held keep the conditions there
 

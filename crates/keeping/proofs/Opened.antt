@@ -5,7 +5,6 @@ use mathlib.Core.Path.{◌≡◌, refl, sym, ap, subst, ◌∙◌}
 use mathlib.Core.Bool.{true, false}
 use mathlib.Core.List.{List}
 use Rattle.words.specs.Halves.{sum}
-use Rattle.layout.specs.Limits.{room}
 use Rattle.layout.specs.Memory.{cut_statements, decode, opens}
 use Rattle.layout.specs.Damage.{total_bytes, sound}
 use Rattle.layout.proofs.Sound.{sound-of}

@@ -8,15 +8,15 @@ use borrow.Author.Tests.{ltb-true, ltb-false}
 use lib.Dec.{ltb}
 use lib.ListN.{length, take, drop}
 use Rattle.plain.specs.Bytes.{fair}
-use Rattle.std.specs.Prelude.{if◌then◌else◌}
+use Rattle.std.specs.Prelude.{Option, None, Some, Result, Ok, Err, if◌then◌else◌}
 use Rattle.plain.specs.Runs.{past}
 use Rattle.plain.proofs.Tests.{true-false}
 use Rattle.value.specs.declared.faults.Fault.TheVariants as F
+use Rattle.value.specs.declared.faults.LineFault.{LineFault}
 use Rattle.statement.specs.Head.{head}
 use Rattle.statement.specs.Statements.{Event, opened, Statement}
 use Rattle.statement.specs.Values.{Given, given, wrong, listed, given_at}
-use Rattle.statement.specs.declared.head.Head.{Head}
-use Rattle.statement.specs.declared.head.Head.TheVariants as H
+use Rattle.statement.specs.declared.head.Named.{Named}
 use Rattle.statement.specs.declared.values.Reader.{Reader}
 use Rattle.statement.specs.declared.values.Reader.TheVariants as R
 use Rattle.statement.proofs.Pointed.{HeadUpTo, GivenUpTo, head-within, listed-within, given-within}
@@ -44,10 +44,11 @@ module _ (line : List ℕ) where
     near-adding es (given r vs) h = tt
     near-adding es (wrong q k) h = omega arith
 
-    near-stated : (h : Head) → HeadUpTo (length line) h → Near (stated line h)
-    near-stated H.Blank u = tt
-    near-stated (H.Named n e o i) u = near-adding (opened (take (e - n) (drop n line)) o ∷ []) (given_at line i) (given-within line i u)
-    near-stated (H.Fault q k) u = omega arith
+    near-stated : (h : Result (Option Named) LineFault) → HeadUpTo (length line) h → Near (stated line h)
+    near-stated (Ok None) u = tt
+    near-stated (Ok (Some h)) u =
+        near-adding (opened (take (h.end - h.start) (drop h.start line)) h.operator ∷ []) (given_at line h.at) (given-within line h.at u)
+    near-stated (Err f) u = omega arith
 
     near-fairly : (o : Outcome) → Near o → Near (fairly line o)
     near-fairly o h = by (ltb (past fair line 0) (length line)) refl
@@ -103,4 +104,4 @@ module _ (s : Pool) (number : ℕ) (h : number ≤ MOST + 1) where
       by : (body : List Statement) (t : Standing) → InLine t → InLine (by_standing s body t number line).standing
       by body (S.Storing r) i = line-storing r body (answered r line) (near-answered line r)
       by body (S.Overflowed r) i = line-overflowed body (answered r line) (near-answered line r)
-      by body (S.Faulted q n k) i = i
+      by body (S.Faulted f) i = i

@@ -96,9 +96,9 @@ reader-stays (s ∷ t ∷ ss) (R.List k) d = reader-stays (t ∷ ss) (R.List k) 
 pub standing-borne : (body : List Statement) (t : Standing) → Borne (borne_standing body t) body
 standing-borne body (S.Storing r) = reader-borne body r
 standing-borne body (S.Overflowed r) = tt
-standing-borne body (S.Faulted q n k) = tt
+standing-borne body (S.Faulted f) = tt
 
 pub standing-stays : (body : List Statement) (t : Standing) → Borne t body → borne_standing body t ≡ t
 standing-stays body (S.Storing r) d = ap S.Storing (reader-stays body r d)
 standing-stays body (S.Overflowed r) d = refl
-standing-stays body (S.Faulted q n k) d = refl
+standing-stays body (S.Faulted f) d = refl

@@ -24,7 +24,7 @@ use Rattle.bookmark.proofs.Numbered.{InLine}
 use Rattle.bookmark.proofs.Within.{Within, read-within}
 use Rattle.entering.specs.Entries.{body_behind, body_of}
 use Rattle.entering.specs.Lines.{Borne}
-use Rattle.intake.specs.Opened.{borne_standing, borne, open_in}
+use Rattle.intake.specs.Opened.{borne_standing, open_in}
 use Rattle.keeping.proofs.Behind.{Behind}
 use Rattle.keeping.proofs.Merged.{merged-behind}
 use Rattle.keeping.proofs.Kept.{Kept}
@@ -35,7 +35,7 @@ use Rattle.keeping.proofs.ReadBorne.{standing-borne}
 pub in-line-borne : (body : List Statement) (t : Standing) → InLine t → InLine (borne_standing body t)
 in-line-borne body (S.Storing r) i = tt
 in-line-borne body (S.Overflowed r) i = tt
-in-line-borne body (S.Faulted q n k) i = i
+in-line-borne body (S.Faulted f) i = i
 
 module _ (m : List ℕ) where
   abbrev ws : List ℕ
