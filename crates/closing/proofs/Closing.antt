@@ -3,14 +3,15 @@
 use Prim.Native.Nat.{ℕ, ◌+◌, ◌*◌, ◌≤◌, ◌<◌}
 use native.Mathlib.Omega.{arith}
 use mathlib.Core.Path.{◌≡◌, refl, sym, ap, subst, ◌∙◌}
-use mathlib.Core.Bool.{true, false}
-use mathlib.Core.List.{List, [], ◌∷◌, ◌++◌, map}
+use mathlib.Core.Bool.{Bool, true, false}
+use mathlib.Core.List.{List, [], ◌∷◌, map}
 use lib.Dec.{ltb, lit<}
-use lib.ListN.{length, take, get_or, length-append, length-take}
+use lib.ListN.{length, take, get_or, length-append}
 use lib.Seq.{get_or-take}
+use Rattle.std.specs.Prelude.{◌&&◌, Ok, Err, if◌then◌else◌}
 use Rattle.refusal.specs.declared.Refusal.{Refusal}
 use Rattle.refusal.specs.declared.Refusal.TheVariants.{TextTooLong, NotHeld, DamagedPool}
-use Rattle.value.specs.declared.faults.Fault.{Fault}
+use Rattle.text.specs.declared.TextFault.{TextFault}
 use Rattle.statement.specs.Statements.{Statement}
 use Rattle.statement.specs.declared.values.Reader.{Reader}
 use Rattle.text.specs.Lengths.{LONGEST_LINE}
@@ -30,9 +31,10 @@ use Rattle.layout.proofs.Holds.{Holds, holds-decode, per_text, per_statement, in
 use Rattle.layout.proofs.Legal.{Fits}
 use Rattle.layout.proofs.Sound.{sound-of, orderly-of}
 use Rattle.loading.specs.Load.{with}
-use Rattle.pool.specs.Replies.{done, refusing}
-use Rattle.pool.specs.declared.reply.Reply.{Reply}
-use Rattle.pool.specs.declared.reply.Reply.TheVariants.{Done, Refused}
+use Rattle.pool.specs.Ready.{with_one_open}
+use Rattle.pool.specs.Replies.{Reply, done, refusing}
+use Rattle.pool.specs.declared.reply.Refused.{Refused}
+use Rattle.pool.proofs.Tested.{open-refused}
 use Rattle.loading.proofs.Rooms.{texts-with, statements-with, values-with, bytes-with}
 use Rattle.feeding.specs.Kept.{settled}
 use Rattle.feeding.specs.Parts.{MOST, Open, Ended, more, last_line, lastly}
@@ -61,28 +63,27 @@ use Rattle.closing.specs.declared.ending.Ended as ending
 -- ---- the answers
 
 module _ (m : List ℕ) where
-  pub close-damaged : sound m ≡ false → Closes m (refusing DamagedPool) m
-  unfolding close_reply close_memory
-  close-damaged e = record { reply = rw e; memory = rw e }
+  pub close-unready : (q : Refusal) → with_one_open m ≡ Err q → Closes m (refusing q) m
+  unfolding close_reply close_memory with_one_open
+  close-unready q e = record { reply = sym (open-refused m q (close_answer (decode m) (state_in m)) e); memory = by (sound m) (opens m) _ e }
+    where
+      by : (s o : Bool) (x : List ℕ) → (if s then (if o then Ok (tt {0}) else Err NotHeld) else Err DamagedPool) ≡ Err q → m ≡ (if s && o then x else m)
+      by true true x e = cc
+      by true false x e = refl
+      by false o x e = refl
 
-  module _ (e : sound m ≡ true) where
-    pub close-shut : opens m ≡ false → Closes m (refusing NotHeld) m
-    unfolding close_reply close_memory
-    close-shut o = record { reply = rw (e, o); memory = rw (e, o) }
+  module _ (e : sound m ≡ true) (o : opens m ≡ true) where
+    closes : close_reply m ≡ close_answer (decode m) (state_in m)
+    unfolding close_reply
+    closes = rw (e, o)
 
-    module _ (o : opens m ≡ true) where
-      closes : close_reply m ≡ close_answer (decode m) (state_in m)
-      unfolding close_reply
-      closes = rw (e, o)
+    pub close-refused : (r : Refused) → close_answer (decode m) (state_in m) ≡ Err r → (after : List ℕ) → after ≡ shut m → Closes m (Err r) after
+    unfolding close_memory
+    close-refused r a after p = let d = closes ∙ a in record { reply = sym d; memory = rw (d, e, o) p }
 
-      pub close-refused : (q : Refusal) (line column : ℕ) → close_answer (decode m) (state_in m) ≡ Refused q line column → (after : List ℕ) → after ≡ shut m
-          → Closes m (Refused q line column) after
-      unfolding close_memory
-      close-refused q line column a after p = let d = closes ∙ a in record { reply = sym d; memory = rw (d, e, o) p }
-
-      pub close-done : close_answer (decode m) (state_in m) ≡ Done → (after : List ℕ) → after ≡ put (closed_pool (decode m) (open_label m) (state_in m)) m → Closes m Done after
-      unfolding close_memory
-      close-done a after p = let d = closes ∙ a in record { reply = sym d; memory = rw (d, e, o) p }
+    pub close-done : close_answer (decode m) (state_in m) ≡ Ok tt → (after : List ℕ) → after ≡ put (closed_pool (decode m) (open_label m) (state_in m)) m → Closes m (Ok tt) after
+    unfolding close_memory
+    close-done a after p = let d = closes ∙ a in record { reply = sym d; memory = rw (d, e, o) p }
 
 -- ---- the last line
 
@@ -120,10 +121,6 @@ module _ (m : List ℕ) (b : Bookmark) (f : Finds m b) where
 
   pub found-long : ltb MOST (state_in m).bytes ≡ ltb MOST b.total
   found-long = ap (λ (o : Open Progress). ltb MOST o.bytes) state-found
-
--- the bytes of a line are all there
-pub line-within : (k : Kept) → length (line k) ≡ k.used → k.used ≤ length k.bytes
-line-within k h = omega (arith, length-take k.used k.bytes)
 
 -- ---- how it stands with its last line, and what is stored then
 
@@ -168,19 +165,22 @@ module _ (m : List ℕ) (b : Bookmark) (f : Finds m b) (k : Kept) (S : Settles b
     ended : closed (decode m) (state_in m) ≡ record { progress = p; number = n; long = k.used }
     ended = with-line z ∙ (λ i. record { progress = complete (decode m) (progress_of e) (sym h i) (line k); number = sym h i; long = k.used })
 
-    pub lasts-some : (x : Entered) → x ≡ (complete_on e n (line k)).entered → Lasts m (record { entered = x; number = n; long = k.used })
+    pub lasts-some : (l : List ℕ) → l ≡ line k → (x : Entered) → x ≡ (complete_on e n l).entered
+        → Lasts m (record { entered = x; number = n; long = k.used })
     unfolding complete_on
-    lasts-some x g =
+    lasts-some l q x f =
         let c = sym ended in
+        let g = f ∙ ap (λ (y : List ℕ). (complete_on e n y).entered) q in
         record {
           standing = ap (λ (r : Entered). r.standing) g ∙ ap (λ (r : Ended Progress). r.progress.standing) c;
           number = ap (λ (r : Ended Progress). r.number) c;
           long = ap (λ (r : Ended Progress). r.long) c;
         }
 
-    pub stores_some : (after : List ℕ) (x : Entered) → Completes m b.entered n (line k) after x → Stores m after x
+    pub stores_some : (l : List ℕ) → l ≡ line k → (after : List ℕ) (x : Entered) → Completes m b.entered n l after x → Stores m after x
     unfolding complete_on
-    stores_some after x g =
+    stores_some l q after x f =
+        let g : Completes m b.entered n (line k) after x = subst (λ (y : List ℕ). Completes m b.entered n y after x) q f in
         let c : p.body ≡ (closed (decode m) (state_in m)).progress.body = sym (ap (λ (r : Ended Progress). r.progress.body) ended) in
         record {
           held = g.ready.held;
@@ -196,10 +196,10 @@ module _ (m : List ℕ) (b : Bookmark) (f : Finds m b) (k : Kept) (S : Settles b
 pub placed-in : (t : Standing) → InLine t → Placed t
 placed-in (S.Storing r) i = tt
 placed-in (S.Overflowed r) i = tt
-placed-in (S.Faulted q n k) i = i.1
+placed-in (S.Faulted f) i = i.1
 
-pub faulted-place : (t : Standing) (q : Fault) (n k : ℕ) → t ≡ S.Faulted q n k → Placed t → k ≤ LONGEST_LINE
-faulted-place t q n k h p = subst Placed h p
+pub faulted-place : (t : Standing) (f : TextFault) → t ≡ S.Faulted f → Placed t → f.place ≤ LONGEST_LINE
+faulted-place t f h p = subst Placed h p
 
 module _ (m : List ℕ) (u : Opened m) where
   -- the count of texts is the limit's

@@ -1,5 +1,5 @@
 -- The open text at its end as the code has it. Definitions only.
-use Rattle.std.specs.Prelude.{ℕ, ◌+◌, ◌≤◌, ◌<◌, ◌≡◌, true, List, [], ◌∷◌, length, take}
+use Rattle.std.specs.Prelude.{ℕ, ◌+◌, ◌≤◌, ◌<◌, ◌≡◌, true, List, [], ◌∷◌, Ok, length, take}
 use Rattle.text.specs.Lengths.{LONGEST_LINE}
 use Rattle.layout.specs.State.{flat, values_of, bytes_of}
 use Rattle.words.specs.Halves.{HALF, joined}
@@ -9,7 +9,6 @@ use Rattle.layout.specs.Memory.{text_count, statement_count, value_count, byte_c
 use Rattle.layout.specs.Damage.{orderly}
 use Rattle.feeding.specs.Kept.{ROOM}
 use Rattle.opening.specs.Closing.{closed, close_answer}
-use Rattle.pool.specs.declared.reply.Reply.TheVariants as P
 use Rattle.bookmark.specs.declared.mark.Bookmark.{Bookmark}
 use Rattle.bookmark.specs.declared.mark.Entered.{Entered}
 use Rattle.bookmark.specs.declared.mark.Standing.{Standing}
@@ -33,7 +32,7 @@ pub record Lasts (m : List ℕ) (r : Ended) : Type 0 where
 abbrev pub Placed : Standing → Type 0
 Placed (S.Storing r) = Unit
 Placed (S.Overflowed r) = Unit
-Placed (S.Faulted q n k) = k ≤ LONGEST_LINE
+Placed (S.Faulted f) = f.place ≤ LONGEST_LINE
 
 pub record Short (m : List ℕ) (r : Ended) : Type 0 where
   pub open-in : Opened m
@@ -43,7 +42,7 @@ pub record Short (m : List ℕ) (r : Ended) : Type 0 where
 -- the closing is done
 pub record Holds (m : List ℕ) (b : Bookmark) : Type 0 where
   pub found : Found m b
-  pub done : close_answer (decode m) (state_in m) ≡ P.Done
+  pub done : close_answer (decode m) (state_in m) ≡ Ok tt
 
 -- the last line is stored, and what stands before the statements stays
 pub record Stores (m after : List ℕ) (r : Entered) : Type 0 where

@@ -10,18 +10,19 @@ ghost use Rattle.closing.specs.Ended.{Found, Lasts, Short, Holds, Stores, Sealab
 
 use bookmark::mark::{Bookmark, Entered, Standing};
 use entering::line::{complete_line, foresee};
-use feeding::kept::settle;
 use intake::state::{label_in, open_in};
-use layout::check::{is_open, is_sound};
 use layout::front::write_front;
 use layout::limits::{
     BYTE_COUNT, HALF, OPEN_AT, STATEMENT_COUNT, TEXT_COUNT, TEXTS, TEXTS_AT, VALUE_COUNT,
 };
-use pool::reply::Reply;
+use loading::load::refused_at;
+use pool::ready::test_open;
+use pool::reply::Refused;
 use refusal::Refusal;
 use statement::values::Reader;
 use taking::counts::{MOST, more};
-use value::faults::{Fault, refusal_of};
+use text::TextFault;
+use value::faults::Fault;
 use words::write::store;
 
 // What the text's lines came to at its end: how many they are, and how long the last one is.
@@ -32,44 +33,38 @@ pub struct Ended {
     pub long: usize,
 }
 
-pub fn close_text(pool: &mut [u64]) -> Reply
+pub fn close_text(pool: &mut [u64]) -> Result<(), Refused>
     ensures { Closes pool.old result pool.new }
 {
-    if !is_sound(pool) {
-        return Reply::Refused(Refusal::DamagedPool, 0, 0);
-    }
-    if !is_open(pool) {
-        return Reply::Refused(Refusal::NotHeld, 0, 0);
-    }
+    test_open(pool)?;
     let b = open_in(pool);
     conclude(pool, b)
 }
 
 // By the answer the text is held, or open no more.
-fn conclude(pool: &mut [u64], b: Bookmark) -> Reply
+fn conclude(pool: &mut [u64], b: Bookmark) -> Result<(), Refused>
     requires { Found pool.old b }
     ensures { Closes pool.old result pool.new }
 {
-    let answer = answer_of(pool, b);
-    match answer {
-        Reply::Done => {
+    match answer_of(pool, b) {
+        Ok(()) => {
             hold(pool, b);
-            Reply::Done
+            Ok(())
         }
-        Reply::Refused(refusal, line, column) => {
+        Err(refused) => {
             store(pool, OPEN_AT, 0);
-            Reply::Refused(refusal, line, column)
+            Err(refused)
         }
     }
 }
 
 // The answer, for which nothing is written.
-fn answer_of(pool: &[u64], b: Bookmark) -> Reply
+fn answer_of(pool: &[u64], b: Bookmark) -> Result<(), Refused>
     requires { Found pool.now b }
     ensures { result ≡ close_answer (decode pool.now) (state_in pool.now) }
 {
     if MOST < b.total {
-        return Reply::Refused(Refusal::TextTooLong, 0, 0);
+        return Err(Refusal::TextTooLong.into());
     }
     end_reply(pool, reach_end(pool, b))
 }
@@ -79,65 +74,60 @@ fn reach_end(pool: &[u64], b: Bookmark) -> Ended
     requires { Found pool.now b }
     ensures { Lasts pool.now result }
 {
-    let entered = b.entered;
-    let kept = b.kept;
-    let last = settle(kept, b.pending);
-    let used = last.used;
-    if used == 0 {
+    let last = b.kept.settle(b.pending);
+    if last.used == 0 {
         return Ended {
-            entered: entered,
+            entered: b.entered,
             number: b.number,
             long: b.long,
         };
     }
-    let bytes = last.bytes;
     let number = more(b.number);
-    let after = foresee(pool, entered, number, &bytes[..used]);
+    let after = foresee(pool, b.entered, number, last.line());
     Ended {
         entered: after,
-        number: number,
-        long: used,
+        number,
+        long: last.used,
     }
 }
 
 // By how the text stands at its end.
-fn end_reply(pool: &[u64], end: Ended) -> Reply
+fn end_reply(pool: &[u64], end: Ended) -> Result<(), Refused>
     requires { Short pool.now end }
     ensures { result ≡ end_reply (decode pool.now) end.entered.standing end.number end.long }
 {
-    let entered = end.entered;
-    let standing = entered.standing;
-    match standing {
+    match end.entered.standing {
         Standing::Storing(reader) => {
             at_end(reader, end.number, end.long, pool[TEXT_COUNT] < TEXTS)
         }
         Standing::Overflowed(reader) => at_end(reader, end.number, end.long, false),
-        Standing::Faulted(fault, line, place) => {
-            Reply::Refused(refusal_of(fault), line, place + 1)
-        }
+        Standing::Faulted(found) => Err(refused_at(found)),
     }
 }
 
 // By how the reader stands, and whether there is room.
-fn at_end(reader: Reader, number: usize, long: usize, fits: bool) -> Reply
+fn at_end(reader: Reader, number: usize, long: usize, fits: bool) -> Result<(), Refused>
     requires { long ≤ ROOM }
     ensures { result ≡ at_end reader number long fits }
 {
     match reader {
-        Reader::Text => by_room(fits),
-        Reader::Data => by_room(fits),
-        Reader::List(_) => Reply::Refused(refusal_of(Fault::OpenList), number, long + 1),
+        Reader::List(_) => Err(refused_at(TextFault {
+            fault: Fault::OpenList,
+            line: number,
+            place: long,
+        })),
+        _ => by_room(fits),
     }
 }
 
 // Done, where there is room.
-fn by_room(fits: bool) -> Reply
+fn by_room(fits: bool) -> Result<(), Refused>
     ensures { result ≡ by_room fits }
 {
     if fits {
-        return Reply::Done;
+        return Ok(());
     }
-    Reply::Refused(Refusal::NoRoom, 0, 0)
+    Err(Refusal::NoRoom.into())
 }
 
 // The last line is stored, and the text is held.
@@ -172,13 +162,9 @@ fn store_last(pool: &mut [u64], b: Bookmark) -> Entered
     requires { Found pool.old b }
     ensures { Stores pool.old pool.new result }
 {
-    let entered = b.entered;
-    let kept = b.kept;
-    let last = settle(kept, b.pending);
-    let used = last.used;
-    if used == 0 {
-        return entered;
+    let last = b.kept.settle(b.pending);
+    if last.used == 0 {
+        return b.entered;
     }
-    let bytes = last.bytes;
-    complete_line(pool, entered, more(b.number), &bytes[..used])
+    complete_line(pool, b.entered, more(b.number), last.line())
 }

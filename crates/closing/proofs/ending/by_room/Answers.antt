@@ -2,4 +2,4 @@
 use Rattle.closing.proofs.ending.by_room.Goals as goal
 
 pub returns : goal.returns
-returns c = simp c.if-fits.false
+returns c = simp (c.if-fits.false, c.into.ensures)
