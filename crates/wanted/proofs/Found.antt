@@ -7,13 +7,14 @@ use borrow.Author.Tests.{leb-true, leb-false}
 use lib.Dec.{leb}
 use lib.Ieee.{Float}
 use lib.ListN.{length}
+use Rattle.std.specs.Prelude.{Result, Ok, Err}
 use Rattle.words.specs.Over.{over}
 use Rattle.layout.specs.State.{Pool}
 use Rattle.layout.specs.Memory.{decode}
 use Rattle.variables.specs.Variables.{variable, present, all_numbers}
 use Rattle.variables.specs.Found.{doubles, found_in, filled, Finds}
-use Rattle.variables.specs.declared.variable.Found.{Found}
-use Rattle.variables.specs.declared.variable.Found.TheVariants as F
+use Rattle.variables.specs.declared.variable.FindError.{FindError}
+use Rattle.variables.specs.declared.variable.FindError.TheVariants as F
 use Rattle.variables.proofs.Counts.{length-numbers}
 use Rattle.variables.proofs.Presence.{absent-doubles, absent-numbers}
 use Rattle.wanted.specs.Names.{name_of}
@@ -40,11 +41,11 @@ pub record Strange (there numeric : Bool) : Type 0 where
   pub present : there ≡ true
   pub strings : numeric ≡ false
 
-abbrev Known : (there numeric : Bool) (xs before after : List Float) → Found → Type 0
-Known there numeric xs before after (F.Count n) = Counted there numeric xs before n after
-Known there numeric xs before after F.TooMany = Crowded there numeric xs before
-Known there numeric xs before after F.Mixed = Strange there numeric
-Known there numeric xs before after F.Absent = there ≡ false
+abbrev Known : (there numeric : Bool) (xs before after : List Float) → Result ℕ FindError → Type 0
+Known there numeric xs before after (Ok n) = Counted there numeric xs before n after
+Known there numeric xs before after (Err F.TooMany) = Crowded there numeric xs before
+Known there numeric xs before after (Err F.Mixed) = Strange there numeric
+Known there numeric xs before after (Err F.Absent) = there ≡ false
 
 known_by : (xs before after : List Float) (there numeric roomy : Bool) → leb (length xs) (length before) ≡ roomy
     → after ≡ filled (found_of (length before) there numeric xs) xs before → Known there numeric xs before after (found_of (length before) there numeric xs)
@@ -54,20 +55,20 @@ known_by xs before after true true false e b = rw e (record { present = refl; nu
 known_by xs before after true false roomy e b = record { present = refl; strings = refl }
 known_by xs before after false numeric roomy e b = refl
 
-module _ {there numeric : Bool} {xs before after : List Float} {r : Found} (l : Looks there numeric xs before r after) where
+module _ {there numeric : Bool} {xs before after : List Float} {r : Result ℕ FindError} (l : Looks there numeric xs before r after) where
   known : Known there numeric xs before after r
   known = rw l.found (known_by xs before after there numeric (leb (length xs) (length before)) refl l.buffer)
 
-  pub counted : (n : ℕ) → r ≡ F.Count n → Counted there numeric xs before n after
+  pub counted : (n : ℕ) → r ≡ Ok n → Counted there numeric xs before n after
   counted n e = rw e at known
 
-  pub crowded : r ≡ F.TooMany → Crowded there numeric xs before
+  pub crowded : r ≡ Err F.TooMany → Crowded there numeric xs before
   crowded e = rw e at known
 
-  pub mixed : r ≡ F.Mixed → Strange there numeric
+  pub mixed : r ≡ Err F.Mixed → Strange there numeric
   mixed e = rw e at known
 
-  pub absent : r ≡ F.Absent → there ≡ false
+  pub absent : r ≡ Err F.Absent → there ≡ false
   absent e = rw e at known
 
 -- what the pool's walk finds under a name
@@ -78,7 +79,7 @@ found-by true true name room s e f = simp (e, f, length-numbers (variable name s
 found-by true false name room s e f = simp (e, f)
 found-by false numeric name room s e f = simp e
 
-pub looks : {name m : List ℕ} {before after : List Float} {r : Found} → Finds name m before r after
+pub looks : {name m : List ℕ} {before after : List Float} {r : Result ℕ FindError} → Finds name m before r after
     → Looks (present name (decode m)) (all_numbers (variable name (decode m))) (doubles name (decode m)) before r after
 looks {name} {m} {before} f =
     let e = found-by (present name (decode m)) (all_numbers (variable name (decode m))) name (length before) (decode m) refl refl in

@@ -3,3 +3,4 @@
 
 pub mod elements;
 pub mod name;
+pub mod outcome;
