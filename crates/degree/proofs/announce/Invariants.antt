@@ -7,6 +7,3 @@ use Rattle.degree.proofs.announce.Given as goal
 
 abbrev pub invariant-loop-d : goal.invariant-loop-d
 invariant-loop-d l = (l.d ≤ CUBIC) × (announced CUBIC l.x ≡ announced l.d l.x)
-
-abbrev pub decreases-loop-d : goal.decreases-loop-d
-decreases-loop-d l = l.d

@@ -6,6 +6,6 @@ pub returns-then-wanted : goal.returns-then-wanted
 unfolding degree_where
 returns-then-wanted c = rw c.if-wanted.true c.read.ensures
 
-pub returns : goal.returns
+pub returns-else-wanted : goal.returns-else-wanted
 unfolding degree_where
-returns c = rw c.if-wanted.false
+returns-else-wanted c = rw c.if-wanted.false
