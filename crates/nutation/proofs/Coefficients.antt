@@ -9,42 +9,39 @@ use borrow.Author.Tests.{le-leb, lt-leb, leb-true, leb-false, eqb-true}
 use lib.Dec.{leb, eqb}
 use lib.Ieee.{Float}
 use lib.ListN.{length, take}
+use Rattle.std.specs.Prelude.{Option, Some, None, Result, Ok, Err}
+use Rattle.refusal.specs.declared.Refusal.TheVariants.{Incomplete, BadDegree, MixedKind, WrongCount}
 use Rattle.rotation.specs.Elements.{CUBIC, GROUPS, groups}
 use Rattle.plain.proofs.Tests.{both, true-false}
-use Rattle.variables.specs.declared.variable.Found.{Found}
-use Rattle.variables.specs.declared.variable.Found.TheVariants as F
+use Rattle.variables.specs.declared.variable.FindError.{FindError}
+use Rattle.variables.specs.declared.variable.FindError.TheVariants as F
 use Rattle.wanted.specs.Elements.{enough_groups, enough_angles}
-use Rattle.wanted.specs.Steps.{Looks}
-use Rattle.wanted.specs.declared.elements.Base.{Base}
+use Rattle.wanted.specs.Steps.{is_there, Looks}
 use Rattle.wanted.proofs.Fronts.{front}
 use Rattle.wanted.proofs.Found.{counted, crowded, mixed, absent}
 use Rattle.degree.specs.Degree.{Low}
-use Rattle.degree.specs.declared.Degree.{Degree}
-use Rattle.degree.specs.declared.Degree.TheVariants as D
-use Rattle.nutation.specs.Found.{is_there, any_strange}
+use Rattle.nutation.specs.Found.{any_mixed}
 use Rattle.nutation.specs.Terms.{COEFFICIENTS, ANGLES, count_of, weighed, counted_of, terms_of}
-use Rattle.nutation.specs.Answer.{Fronts, Served, by_terms, by_kinds}
+use Rattle.nutation.specs.Answer.{Base, Fronts, by_terms, by_kinds}
 use Rattle.nutation.specs.declared.terms.Lengths.{Lengths}
-use Rattle.nutation.specs.declared.terms.Terms.{Terms}
-use Rattle.nutation.specs.declared.terms.Terms.TheVariants as T
 
 -- ---- coefficients
 
 -- the count is that of the list, up to one more than the most; the list is the buffer's front, where it has room
-pub record Held (xs after : List Float) (r : Found) : Type 0 where
+pub record Held (xs after : List Float) (r : Result ℕ FindError) : Type 0 where
   pub count : count_of r ≡ min (length xs) (COEFFICIENTS + 1)
   pub front : length xs ≤ COEFFICIENTS → take (length xs) after ≡ xs
 
-pub coefficients : {there numeric : Bool} {xs before after : List Float} (r : Found) → Looks there numeric xs before r after → numeric ≡ true
+pub coefficients : {there numeric : Bool} {xs before after : List Float} (r : Result ℕ FindError) → Looks there numeric xs before r after → numeric ≡ true
     → length before ≡ COEFFICIENTS → (there ≡ false → xs ≡ []) → Held xs after r
-coefficients {xs = xs} {before} {after} (F.Count n) l e h none =
+coefficients {xs = xs} {before} {after} (Ok n) l e h none =
     let f = counted l n refl in
     record { count = omega (arith, f.count, f.roomy); front = λ _. front xs before after (length xs) f.written f.roomy refl }
-coefficients {xs = xs} F.TooMany l e h none =
+coefficients {xs = xs} (Err F.TooMany) l e h none =
     let f = crowded l refl in
     record { count = omega (arith, f.crowded); front = λ k. absurd (omega (arith, f.crowded)) }
-coefficients F.Mixed l e h none = true-false (sym e ∙ (mixed l refl).strings)
-coefficients {after = after} F.Absent l e h none =
+coefficients (Err F.Mixed) l e h none = true-false (sym e ∙ (mixed l refl).strings)
+coefficients {after = after} (Err F.Absent) l e h none =
     let z = none (absent l refl) in
     rw z (record { count = refl; front = λ _. refl })
 
@@ -99,7 +96,7 @@ module _ (degree n : ℕ) where
 
 -- ---- angles and coefficients together
 
-module _ (epoch : Float) (base : Base) (angles ra dec pm before : List Float) (angles' ra' dec' pm' : List Float) (r d p : Found)
+module _ (epoch : Float) (base : Base) (angles ra dec pm before : List Float) (angles' ra' dec' pm' : List Float) (r d p : Result ℕ FindError)
     (lr : Held ra ra' r) (ld : Held dec dec' d) (lp : Held pm pm' p) (room : length before ≡ ANGLES) (degree : ℕ) (low : degree ≤ CUBIC) where
   -- of angles that have room
   weighed-by : (b : Bool) → enough_angles degree angles ra dec pm ≡ b → take (length angles) angles' ≡ angles
@@ -114,24 +111,24 @@ module _ (epoch : Float) (base : Base) (angles ra dec pm before : List Float) (a
       rw (x, y, z, e, f, lr.front (omega arith), ld.front (omega arith), lp.front (omega arith))
   weighed-by false e f = rw (lr.count, ld.count, lp.count, cut-enough degree (length angles) (length ra) (length dec) (length pm), e)
 
-  pub decided : {there numeric : Bool} (a : Found) → Looks there numeric angles before a angles' → there ≡ true → numeric ≡ true
+  pub decided : {there numeric : Bool} (a : Result ℕ FindError) → Looks there numeric angles before a angles' → there ≡ true → numeric ≡ true
       → by_terms epoch angles' ra' dec' pm' base (counted_of degree a r d p) ≡ by_kinds epoch true degree angles ra dec pm base
-  decided (F.Count n) l e i =
+  decided (Ok n) l e i =
       let f = counted l n refl in
       rw f.count (weighed-by (enough_angles degree angles ra dec pm) refl (front angles before angles' (length angles) f.written f.roomy refl))
-  decided F.TooMany l e i =
+  decided (Err F.TooMany) l e i =
       rw (crowded-groups degree (length angles) (length ra) (length dec) (length pm) low (omega (arith, (crowded l refl).crowded)))
-  decided F.Mixed l e i = true-false (sym i ∙ (mixed l refl).strings)
-  decided F.Absent l e i = true-false (sym e ∙ absent l refl)
+  decided (Err F.Mixed) l e i = true-false (sym i ∙ (mixed l refl).strings)
+  decided (Err F.Absent) l e i = true-false (sym e ∙ absent l refl)
 
 -- ---- counts that are well are within the buffers
 
 module _ (angles ra dec pm : List Float) (n : Lengths)
     (size : length angles ≡ ANGLES) (size_ra : length ra ≡ COEFFICIENTS) (size_dec : length dec ≡ COEFFICIENTS) (size_pm : length pm ≡ COEFFICIENTS) where
-  fronts-by : (b : Bool) (degree m x y z : ℕ) → degree ≤ CUBIC → enough_groups degree m x y z ≡ b → T.Counted n ≡ weighed degree m x y z
+  fronts-by : (b : Bool) (degree m x y z : ℕ) → degree ≤ CUBIC → enough_groups degree m x y z ≡ b → Ok n ≡ weighed degree m x y z
       → m ≤ length angles → Fronts n angles ra dec pm
   fronts-by true degree m x y z low e w h =
-      let g : T.Counted n ≡ T.Counted (record { degree = degree; angles = m; ra = x; dec = y; pm = z }) = rw e at w in
+      let g : Ok n ≡ Ok (record { degree = degree; angles = m; ra = x; dec = y; pm = z }) = rw e at w in
       let s : n ≡ record { degree = degree; angles = m; ra = x; dec = y; pm = z } = cc in
       let u = enough-groups degree m x y z e in
       rw s
@@ -146,34 +143,32 @@ module _ (angles ra dec pm : List Float) (n : Lengths)
         for_pm = omega arith;
       })
   fronts-by false degree m x y z low e w h =
-      let g : T.Counted n ≡ T.Miscounted = rw e at w in absurd (let o : ◌≡◌ {A = ℕ} 0 1 = cc in omega arith)
+      let g : Ok n ≡ Err WrongCount = rw e at w in absurd (let o : ◌≡◌ {A = ℕ} 0 1 = cc in omega arith)
 
-  fronts : {there numeric : Bool} {xs before : List Float} (degree : ℕ) (a r d p : Found) → degree ≤ CUBIC → Looks there numeric xs before a angles
-      → T.Counted n ≡ counted_of degree a r d p → length before ≡ ANGLES → Fronts n angles ra dec pm
-  fronts degree (F.Count m) r d p low f w b =
+  fronts : {there numeric : Bool} {xs before : List Float} (degree : ℕ) (a r d p : Result ℕ FindError) → degree ≤ CUBIC → Looks there numeric xs before a angles
+      → Ok n ≡ counted_of degree a r d p → length before ≡ ANGLES → Fronts n angles ra dec pm
+  fronts degree (Ok m) r d p low f w b =
       let c = counted f m refl in
       fronts-by (enough_groups degree m (count_of r) (count_of d) (count_of p)) degree m (count_of r) (count_of d) (count_of p) low refl w
       (omega (arith, c.count, c.roomy))
-  fronts degree F.TooMany r d p low f w b = absurd (let o : ◌≡◌ {A = ℕ} 0 1 = cc in omega arith)
-  fronts degree F.Mixed r d p low f w b = absurd (let o : ◌≡◌ {A = ℕ} 0 1 = cc in omega arith)
-  fronts degree F.Absent r d p low f w b = absurd (let o : ◌≡◌ {A = ℕ} 0 1 = cc in omega arith)
+  fronts degree (Err F.TooMany) r d p low f w b = absurd (let o : ◌≡◌ {A = ℕ} 0 1 = cc in omega arith)
+  fronts degree (Err F.Mixed) r d p low f w b = absurd (let o : ◌≡◌ {A = ℕ} 0 1 = cc in omega arith)
+  fronts degree (Err F.Absent) r d p low f w b = absurd (let o : ◌≡◌ {A = ℕ} 0 1 = cc in omega arith)
 
-  fronts-of : {there numeric : Bool} {xs before : List Float} (t : Bool) (degree : Degree) (mixed u : Bool) (a r d p : Found) → is_there a ≡ t
-      → any_strange a r d p ≡ u → Low degree → Looks there numeric xs before a angles → T.Counted n ≡ terms_of degree mixed a r d p
+  fronts-of : {there numeric : Bool} {xs before : List Float} (t : Bool) (degree : Option ℕ) (mixed u : Bool) (a r d p : Result ℕ FindError) → is_there a ≡ t
+      → any_mixed a r d p ≡ u → Low degree → Looks there numeric xs before a angles → Ok n ≡ terms_of degree mixed a r d p
       → length before ≡ ANGLES → Fronts n angles ra dec pm
   fronts-of false degree mixed u a r d p e f low l w b =
-      let g : T.Counted n ≡ T.Missing = rw e at w in absurd (let z : ◌≡◌ {A = ℕ} 0 1 = cc in omega arith)
-  fronts-of true D.Bad mixed u a r d p e f low l w b =
-      let g : T.Counted n ≡ T.BadDegree = rw e at w in absurd (let z : ◌≡◌ {A = ℕ} 0 1 = cc in omega arith)
-  fronts-of true (D.Of x) true u a r d p e f low l w b =
-      let g : T.Counted n ≡ T.Mixed = rw e at w in absurd (let z : ◌≡◌ {A = ℕ} 0 1 = cc in omega arith)
-  fronts-of true (D.Of x) false true a r d p e f low l w b =
-      let g : T.Counted n ≡ T.Mixed = rw (e, f) at w in absurd (let z : ◌≡◌ {A = ℕ} 0 1 = cc in omega arith)
-  fronts-of true (D.Of x) false false a r d p e f low l w b = fronts x a r d p (low.cubic x refl) l (rw (e, f) at w) b
+      let g : Ok n ≡ Err Incomplete = rw e at w in absurd (let z : ◌≡◌ {A = ℕ} 0 1 = cc in omega arith)
+  fronts-of true None mixed u a r d p e f low l w b =
+      let g : Ok n ≡ Err BadDegree = rw e at w in absurd (let z : ◌≡◌ {A = ℕ} 0 1 = cc in omega arith)
+  fronts-of true (Some x) true u a r d p e f low l w b =
+      let g : Ok n ≡ Err MixedKind = rw e at w in absurd (let z : ◌≡◌ {A = ℕ} 0 1 = cc in omega arith)
+  fronts-of true (Some x) false true a r d p e f low l w b =
+      let g : Ok n ≡ Err MixedKind = rw (e, f) at w in absurd (let z : ◌≡◌ {A = ℕ} 0 1 = cc in omega arith)
+  fronts-of true (Some x) false false a r d p e f low l w b = fronts x a r d p (low.cubic x refl) l (rw (e, f) at w) b
 
-pub served : {there numeric : Bool} {xs before angles ra dec pm : List Float} (terms : Terms) (degree : Degree) (mixed : Bool) (a r d p : Found)
-    → Low degree → Looks there numeric xs before a angles → terms ≡ terms_of degree mixed a r d p
-    → length before ≡ ANGLES → length angles ≡ ANGLES → length ra ≡ COEFFICIENTS → length dec ≡ COEFFICIENTS → length pm ≡ COEFFICIENTS
-    → Served terms angles ra dec pm
-served {angles = angles} {ra} {dec} {pm} terms degree mixed a r d p low l e b h i j o =
-    record { fronts = λ n f. fronts-of angles ra dec pm n h i j o (is_there a) degree mixed (any_strange a r d p) a r d p refl refl low l (sym f ∙ e) b }
+  -- what it came to, where it came to counts
+  pub served : {there numeric : Bool} {xs before : List Float} (degree : Option ℕ) (mixed : Bool) (a r d p : Result ℕ FindError) → Low degree
+      → Looks there numeric xs before a angles → Ok n ≡ terms_of degree mixed a r d p → length before ≡ ANGLES → Fronts n angles ra dec pm
+  served degree mixed a r d p = fronts-of (is_there a) degree mixed (any_mixed a r d p) a r d p refl refl

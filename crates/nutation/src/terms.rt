@@ -1,12 +1,14 @@
 // The counts of a body's coefficients and of its system's angles, or what is wrong with them: 11, 23, 16 and 12 in their order.
 ghost use Rattle.std.specs.Prelude.{◌≡◌, ◌≤◌};
 ghost use Rattle.rotation.specs.Elements.{CUBIC};
+ghost use Rattle.wanted.specs.Elements.{enough_groups};
 ghost use Rattle.degree.specs.Degree.{Low};
-ghost use Rattle.nutation.specs.Terms.{count_of, weighed, counted_of, terms_of};
+ghost use Rattle.nutation.specs.Terms.{count_of, counted_of, terms_of};
 
-use crate::found::{any_strange, is_there};
-use degree::Degree;
-use variables::variable::Found;
+use crate::found::any_mixed;
+use refusal::Refusal;
+use variables::variable::FindError;
+use wanted::outcome::is_there;
 
 // The most angles of a system, so the most coefficients, and the most values of so many angles: four each at the highest degree.
 pub const COEFFICIENTS: usize = 32;
@@ -23,88 +25,76 @@ pub struct Lengths {
     pub pm: usize,
 }
 
-#[derive(Clone, Copy)]
-pub enum Terms {
-    Counted(Lengths),
-    Miscounted,
-    Mixed,
-    BadDegree,
-    Missing,
-}
-
 // Angles that are wanted and absent come before a bad degree, this before a string, of which `mixed` tells where pole or meridian has one,
 // and this before the counts.
-pub fn judge(degree: Degree, mixed: bool, angles: Found, ra: Found, dec: Found, pm: Found) -> Terms
+pub fn judge(
+    degree: Option<usize>,
+    mixed: bool,
+    angles: Result<usize, FindError>,
+    ra: Result<usize, FindError>,
+    dec: Result<usize, FindError>,
+    pm: Result<usize, FindError>,
+) -> Result<Lengths, Refusal>
     requires { Low degree }
     ensures { result ≡ terms_of degree mixed angles ra dec pm }
 {
     if !is_there(angles) {
-        return Terms::Missing;
+        return Err(Refusal::Incomplete);
     }
-    let Degree::Of(d) = degree else {
-        return Terms::BadDegree;
+    let Some(d) = degree else {
+        return Err(Refusal::BadDegree);
     };
-    if mixed {
-        return Terms::Mixed;
-    }
-    if any_strange(angles, ra, dec, pm) {
-        return Terms::Mixed;
+    if mixed || any_mixed(angles, ra, dec, pm) {
+        return Err(Refusal::MixedKind);
     }
     count(d, angles, ra, dec, pm)
 }
 
 // More angles than the buffer holds are more than there may be of any degree.
-fn count(degree: usize, angles: Found, ra: Found, dec: Found, pm: Found) -> Terms
+fn count(
+    degree: usize,
+    angles: Result<usize, FindError>,
+    ra: Result<usize, FindError>,
+    dec: Result<usize, FindError>,
+    pm: Result<usize, FindError>,
+) -> Result<Lengths, Refusal>
     requires { degree ≤ CUBIC }
     ensures { result ≡ counted_of degree angles ra dec pm }
 {
-    match angles {
-        Found::Count(n) => weigh(degree, n, count_of(ra), count_of(dec), count_of(pm)),
-        Found::TooMany => Terms::Miscounted,
-        Found::Mixed => Terms::Miscounted,
-        Found::Absent => Terms::Miscounted,
+    let Ok(values) = angles else {
+        return Err(Refusal::WrongCount);
+    };
+    let lengths = Lengths {
+        degree,
+        angles: values,
+        ra: count_of(ra),
+        dec: count_of(dec),
+        pm: count_of(pm),
+    };
+    if is_enough(lengths) {
+        Ok(lengths)
+    } else {
+        Err(Refusal::WrongCount)
     }
 }
 
 // Counts of coefficients. More than a buffer holds are more than any angles can serve: one more says so.
-fn count_of(found: Found) -> usize
+fn count_of(found: Result<usize, FindError>) -> usize
     ensures { result ≡ count_of found }
 {
     match found {
-        Found::Count(n) => n,
-        Found::TooMany => COEFFICIENTS + 1,
-        Found::Mixed => 0,
-        Found::Absent => 0,
+        Ok(n) => n,
+        Err(FindError::TooMany) => COEFFICIENTS + 1,
+        Err(FindError::Mixed | FindError::Absent) => 0,
     }
 }
 
 // Whole groups of degree plus one values, no more than there may be, and one for every coefficient.
-fn weigh(degree: usize, angles: usize, ra: usize, dec: usize, pm: usize) -> Terms
-    requires { degree ≤ CUBIC }
-    ensures { result ≡ weighed degree angles ra dec pm }
+fn is_enough(n: Lengths) -> bool
+    requires { n.degree ≤ CUBIC }
+    ensures { result ≡ enough_groups n.degree n.angles n.ra n.dec n.pm }
 {
-    let size = degree + 1;
-    let groups = angles / size;
-    if angles % size != 0 {
-        return Terms::Miscounted;
-    }
-    if COEFFICIENTS < groups {
-        return Terms::Miscounted;
-    }
-    if groups < ra {
-        return Terms::Miscounted;
-    }
-    if groups < dec {
-        return Terms::Miscounted;
-    }
-    if groups < pm {
-        return Terms::Miscounted;
-    }
-    Terms::Counted(Lengths {
-        degree,
-        angles,
-        ra,
-        dec,
-        pm,
-    })
+    let size = n.degree + 1;
+    let groups = n.angles / size;
+    n.angles % size == 0 && groups <= COEFFICIENTS && n.ra.max(n.dec.max(n.pm)) <= groups
 }

@@ -2,8 +2,5 @@
 use Rattle.nutation.proofs.Looked.{nothing}
 use Rattle.nutation.proofs.found.find_angles.Goals as goal
 
-pub returns-then-wanted : goal.returns-then-wanted
-returns-then-wanted c = rw c.if-wanted.true c.find.ensures
-
-pub returns : goal.returns
-returns c = rw c.if-wanted.false (nothing _)
+pub returns-else-wanted : goal.returns-else-wanted
+returns-else-wanted c = rw c.if-wanted.false (nothing _)
