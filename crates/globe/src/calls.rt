@@ -4,12 +4,19 @@ ghost use Rattle.globe.specs.Radii.{Measures};
 
 use super::source::Source;
 use super::{orientation, radii};
+use refusal::Refusal;
 use rotation::builtin;
-use rotation::matrix::Oriented;
-use rotation::table::Radii;
+use rotation::matrix::Orientation;
+use rotation::table::Axes;
 
 // The orientation of a body at an epoch, in TDB seconds past J2000. The pool is looked at only where it is the source.
-pub fn orientation(source: Source, pool: &[u64], code: u32, epoch: f64) -> Oriented
+#[tactic(auto, unfolding(crate::specs::Orientation::orientation_reply))]
+pub fn orientation(
+    source: Source,
+    pool: &[u64],
+    code: u32,
+    epoch: f64,
+) -> Result<Orientation, Refusal>
     ensures { Orients source pool.now code epoch result }
 {
     match source {
@@ -19,7 +26,8 @@ pub fn orientation(source: Source, pool: &[u64], code: u32, epoch: f64) -> Orien
 }
 
 // The radii of a body in km. The pool is looked at only where it is the source.
-pub fn radii(source: Source, pool: &[u64], code: u32) -> Radii
+#[tactic(auto, unfolding(crate::specs::Radii::radii_reply))]
+pub fn radii(source: Source, pool: &[u64], code: u32) -> Result<Axes, Refusal>
     ensures { Measures source pool.now code result }
 {
     match source {

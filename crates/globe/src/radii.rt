@@ -1,76 +1,63 @@
 // Radii from a pool: 15, 10, 16, 12, 24, or three values.
-ghost use Rattle.std.specs.Prelude.{◌≡◌, true};
+ghost use Rattle.std.specs.Prelude.{◌≡◌, ◌≤◌};
 ghost use Rattle.layout.specs.Memory.{decode};
-ghost use Rattle.layout.specs.Damage.{sound};
 ghost use Rattle.globe.specs.declared.source.Source.TheVariants as Source;
-ghost use Rattle.wanted.specs.Steps.{Askable};
+ghost use Rattle.wanted.specs.Names.{LARGEST};
 ghost use Rattle.globe.specs.Radii.{radii_reply, radii_from, radii_of, admitted};
 
-use layout::check::is_sound;
+use layout::undamaged::Undamaged;
 use refusal::Refusal;
 use rotation::code;
-use rotation::code::System;
-use rotation::table::{Axes, Radii};
-use variables::variable::Found;
+use rotation::table::Axes;
+use variables::variable::FindError;
 use wanted::elements;
 use wanted::name::Wanted;
 
 // 15 first.
-pub fn from_pool(pool: &[u64], code: u32) -> Radii
+#[tactic(auto, unfolding(crate::specs::Radii::radii_reply))]
+pub fn from_pool(pool: &[u64], code: u32) -> Result<Axes, Refusal>
     ensures { result ≡ radii_reply Source.Pool pool.now code }
 {
-    if !is_sound(pool) {
-        return Radii::Refused(Refusal::DamagedPool);
-    }
+    let pool = Undamaged::of(pool).ok_or(Refusal::DamagedPool)?;
     by_code(pool, code)
 }
 
 // 10 for a code of no system.
-fn by_code(pool: &[u64], code: u32) -> Radii
-    requires { sound pool.now ≡ true }
-    ensures { result ≡ radii_from (decode pool.now) code }
+#[tactic(auto, unfolding(crate::specs::Radii::radii_from))]
+fn by_code(pool: Undamaged, code: u32) -> Result<Axes, Refusal>
+    ensures { result ≡ radii_from (decode pool.entry.words.now) code }
 {
-    let system = code::system_of(code);
-    match system {
-        System::Of(_) => of_body(pool, code),
-        System::Nowhere => Radii::Refused(Refusal::UnknownBody),
-    }
+    let _system = code::system_of(code).ok_or(Refusal::UnknownBody)?;
+    of_body(pool, code)
 }
 
 // "BODYn_RADII absent: 10; not three values: 12.", and 16 for a string just before 12.
-fn of_body(pool: &[u64], code: u32) -> Radii
-    requires { Askable pool.now code }
-    ensures { result ≡ radii_of (decode pool.now) code }
+fn of_body(pool: Undamaged, code: u32) -> Result<Axes, Refusal>
+    requires { code ≤ LARGEST }
+    ensures { result ≡ radii_of (decode pool.entry.words.now) code }
 {
     let mut xs = [0.0; 3];
     let found = elements::find(pool, code, Wanted::Radii, &mut xs);
     match found {
-        Found::Count(n) => {
-            if n < 3 {
-                return Radii::Refused(Refusal::WrongCount);
-            }
-            admit(Axes {
-                a: xs[0],
-                b: xs[1],
-                c: xs[2],
-            })
-        }
-        Found::TooMany => Radii::Refused(Refusal::WrongCount),
-        Found::Mixed => Radii::Refused(Refusal::MixedKind),
-        Found::Absent => Radii::Refused(Refusal::UnknownBody),
+        Ok(3) => admit(Axes {
+            a: xs[0],
+            b: xs[1],
+            c: xs[2],
+        }),
+        Ok(_) => Err(Refusal::WrongCount),
+        Err(FindError::TooMany) => Err(Refusal::WrongCount),
+        Err(FindError::Mixed) => Err(Refusal::MixedKind),
+        Err(FindError::Absent) => Err(Refusal::UnknownBody),
     }
 }
 
 // "must each be greater than 0 as doubles": else 24.
-fn admit(axes: Axes) -> Radii
+fn admit(axes: Axes) -> Result<Axes, Refusal>
     ensures { result ≡ admitted axes }
 {
-    if axes.a > 0.0 {
-        if axes.b > 0.0 {
-            if axes.c > 0.0 {
-                return Radii::Given(axes);
-            }
-        }
+    if axes.a > 0.0 && axes.b > 0.0 && axes.c > 0.0 {
+        Ok(axes)
+    } else {
+        Err(Refusal::BadRadius)
     }
-    Radii::Refused(Refusal::BadRadius)
 }

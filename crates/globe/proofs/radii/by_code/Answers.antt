@@ -1,20 +1,12 @@
 -- `by_code` meets its contract: the code decides. Assumes nothing.
-use mathlib.Core.Path.{sym, ◌∙◌}
-use Rattle.globe.specs.Radii.{radii_from}
+use mathlib.Core.Path.{◌≡◌}
+use native.Mathlib.Omega.{arith}
+use Rattle.std.specs.Prelude.{Some}
+use Rattle.rotation.specs.Codes.{system_of}
 use Rattle.globe.proofs.Codes.{short-code}
 use Rattle.globe.proofs.radii.by_code.Goals as goal
 
 pub of_body-requires : goal.of_body-requires
 of_body-requires c =
-    record {
-      undamaged = c.requires;
-      code = (short-code _ _ (sym c.in-Of.is ∙ c.system_of-system.ensures)).0;
-    }
-
-pub returns-in-Of : goal.returns-in-Of
-unfolding radii_from
-returns-in-Of c = rw (← c.system_of-system.ensures, c.in-Of.is) c.of_body.ensures
-
-pub returns-in-Nowhere : goal.returns-in-Nowhere
-unfolding radii_from
-returns-in-Nowhere c = rw (← c.system_of-system.ensures, c.in-Nowhere.is)
+    let e : Some c.in_ok-_system._system ≡ system_of c.args.code = grind arith in
+    (short-code _ _ e).0
