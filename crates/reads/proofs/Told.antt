@@ -6,7 +6,7 @@ use native.Mathlib.Nat.{zero-add}
 use borrow.Author.Tests.{lt-ltb, le-ltb}
 use lib.ListN.{length, get_or}
 use Rattle.rotation.specs.Codes.{system_of}
-use Rattle.rotation.specs.declared.code.System.TheVariants.{Of, Nowhere}
+use Rattle.std.specs.Prelude.{Some, None}
 use Rattle.words.specs.Placed.{Writes}
 use Rattle.words.proofs.Placed.{writes-same, writes_nothing}
 use Rattle.reads.specs.Names.{Name, orientation_names, radii_names, listed, LONGEST_NAME, told, Tells}
@@ -14,17 +14,17 @@ use Rattle.reads.specs.declared.Asked.{Asked}
 use Rattle.reads.specs.declared.Asked.TheVariants as A
 
 -- the lists of a code, by its system
-none : (asked : Asked) (n : ℕ) → system_of n ≡ Nowhere → [] ≡ listed asked n
+none : (asked : Asked) (n : ℕ) → system_of n ≡ None → [] ≡ listed asked n
 unfolding listed
 none A.Orientation n e = rw e
 none A.Radii n e = rw e
 
-module _ (n s : ℕ) (e : system_of n ≡ Of s) where
-  pub of-orientation : orientation_names n (Of s) ≡ listed A.Orientation n
+module _ (n s : ℕ) (e : system_of n ≡ Some s) where
+  pub of-orientation : orientation_names n (Some s) ≡ listed A.Orientation n
   unfolding listed
   of-orientation = rw e
 
-  pub of-radii : radii_names n (Of s) ≡ listed A.Radii n
+  pub of-radii : radii_names n (Some s) ≡ listed A.Radii n
   unfolding listed
   of-radii = rw e
 
@@ -39,5 +39,5 @@ module _ (asked : Asked) (n place : ℕ) {m : List ℕ} where
     pub in-room : {names : List Name} {r : ℕ} {o : List ℕ} → names ≡ listed asked n → Writes 0 (get_or names place []) m r o → Tells asked n place m r o
     in-room e w = tells (rw (le-ltb _ _ room, e)) w
 
-    pub without-system : system_of n ≡ Nowhere → Tells asked n place m 0 m
+    pub without-system : system_of n ≡ None → Tells asked n place m 0 m
     without-system e = in-room {names = []} (none asked n e) (writes_nothing 0 m)

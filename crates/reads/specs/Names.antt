@@ -1,9 +1,7 @@
 -- "Which names a query may read": a given orientation or radii query, "its system's angles and degree included". docs/READS.md has them as a table.
 -- Definitions only.
-use Rattle.std.specs.Prelude.{ℕ, ◌≡◌, List, [], ◌∷◌, ltb, Float, length, get_or, if◌then◌else◌}
+use Rattle.std.specs.Prelude.{ℕ, ◌≡◌, List, [], ◌∷◌, ltb, Float, length, get_or, if◌then◌else◌, Option, Some, None}
 use Rattle.rotation.specs.Codes.{system_of}
-use Rattle.rotation.specs.declared.code.System.{System}
-use Rattle.rotation.specs.declared.code.System.TheVariants.{Of, Nowhere}
 use Rattle.words.specs.Over.{over}
 use Rattle.wanted.specs.Names.{name_of}
 use Rattle.wanted.specs.declared.name.Wanted.TheVariants as W
@@ -18,15 +16,15 @@ Name = List ℕ
 -- ---- of a pool
 
 -- "With n the code", s its system; a code that is none has none
-abbrev pub orientation_names : (n : ℕ) → System → List Name
-orientation_names n Nowhere = []
-orientation_names n (Of s) =
+abbrev pub orientation_names : (n : ℕ) → Option ℕ → List Name
+orientation_names n None = []
+orientation_names n (Some s) =
     name_of n W.PoleRa ∷ name_of n W.PoleDec ∷ name_of n W.Pm ∷ name_of n W.NutPrecRa ∷ name_of n W.NutPrecDec ∷ name_of n W.NutPrecPm
     ∷ name_of s W.NutPrecAngles ∷ name_of s W.MaxPhaseDegree ∷ []
 
-abbrev pub radii_names : (n : ℕ) → System → List Name
-radii_names n Nowhere = []
-radii_names n (Of s) = name_of n W.Radii ∷ []
+abbrev pub radii_names : (n : ℕ) → Option ℕ → List Name
+radii_names n None = []
+radii_names n (Some s) = name_of n W.Radii ∷ []
 
 unfoldable pub listed : Asked → (n : ℕ) → List Name
 unfolding system_of

@@ -1,15 +1,13 @@
 // The names that a query may read: document 02, K14, "Which names a query may read is listed in docs/ and proved to be all of them."
 #![tactic(auto)]
 
-ghost use Rattle.std.specs.Prelude.{[], ◌≤◌, get_or};
+ghost use Rattle.std.specs.Prelude.{[], ◌≤◌, get_or, Some};
 ghost use Rattle.wanted.specs.Names.{LARGEST};
 ghost use Rattle.wanted.specs.Spelling.{Spellable};
 ghost use Rattle.words.specs.Placed.{Writes};
-ghost use Rattle.rotation.specs.declared.code.System.TheVariants.{Of};
 ghost use Rattle.reads.specs.Names.{orientation_names, radii_names, Tells};
 
 use rotation::code;
-use rotation::code::System;
 use wanted::name::{Wanted, spell};
 
 // What is asked of a pool about a body.
@@ -30,20 +28,19 @@ pub fn name_read(asked: Asked, code: u32, place: usize, out: &mut [u8]) -> usize
     if out.len() < LONGEST_NAME {
         return 0;
     }
-    let system = code::system_of(code);
-    let System::Of(s) = system else {
+    let Some(system) = code::system_of(code) else {
         return 0;
     };
     match asked {
-        Asked::Orientation => for_orientation(code, s, place, out),
-        Asked::Radii => for_radii(code, s, place, out),
+        Asked::Orientation => for_orientation(code, system, place, out),
+        Asked::Radii => for_radii(code, system, place, out),
     }
 }
 
-// Six of the body and two of its system.
+// Six of the body and two of its system. A table of them would be no plainer: here each place stands beside its name and whose it is.
 fn for_orientation(code: u32, system: u32, place: usize, out: &mut [u8]) -> usize
     requires { (Spellable code out.old) × (system ≤ LARGEST) }
-    ensures { Writes 0 (get_or (orientation_names code (Of system)) place []) out.old result out.new }
+    ensures { Writes 0 (get_or (orientation_names code (Some system)) place []) out.old result out.new }
 {
     match place {
         0 => spell(code, Wanted::PoleRa, out),
@@ -61,7 +58,7 @@ fn for_orientation(code: u32, system: u32, place: usize, out: &mut [u8]) -> usiz
 // One of the body.
 fn for_radii(code: u32, system: u32, place: usize, out: &mut [u8]) -> usize
     requires { Spellable code out.old }
-    ensures { Writes 0 (get_or (radii_names code (Of system)) place []) out.old result out.new }
+    ensures { Writes 0 (get_or (radii_names code (Some system)) place []) out.old result out.new }
 {
     match place {
         0 => spell(code, Wanted::Radii, out),

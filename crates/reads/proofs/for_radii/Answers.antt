@@ -1,12 +1,12 @@
 -- `for_radii` meets its contract: the name at place 0, and none at another. Assumes nothing.
 use native.Mathlib.Omega.{arith}
-use Rattle.rotation.specs.declared.code.System.TheVariants.{Of}
+use Rattle.std.specs.Prelude.{Some}
 use Rattle.reads.specs.Names.{radii_names}
 use Rattle.reads.proofs.Places.{at_place, past-last}
 use Rattle.reads.proofs.for_radii.Goals as goal
 
 pub returns-in-0 : goal.returns-in-0
-returns-in-0 c = at_place (radii_names c.args.code (Of c.args.system)) c.in-0.is c.spell.ensures
+returns-in-0 c = at_place (radii_names c.args.code (Some c.args.system)) c.in-0.is c.spell.ensures
 
 pub returns-in_default : goal.returns-in_default
-returns-in_default c = past-last (radii_names c.args.code (Of c.args.system)) c.args.place (omega arith)
+returns-in_default c = past-last (radii_names c.args.code (Some c.args.system)) c.args.place (omega arith)
