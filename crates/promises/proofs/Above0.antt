@@ -7,17 +7,13 @@ use mathlib.Core.List.{List, [], ◌∷◌}
 use lib.Dec.{eqb}
 use lib.Ieee.{round, lt}
 use lib.Ieee.Scale.{finite}
-use Rattle.std.specs.Prelude.{if◌then◌else◌}
+use Rattle.std.specs.Prelude.{if◌then◌else◌, Option, Some, None, Result, Ok}
 use Rattle.plain.specs.Doubles.{printed}
 use Rattle.plain.proofs.Bounded.{Under, finite-under}
 use Rattle.plain.proofs.Each.{Each, each_weaken}
 use Rattle.plain.proofs.Tests.{both}
 use Rattle.rotation.specs.Table.{size_of}
 use Rattle.rotation.specs.declared.table.Axes.{Axes}
-use Rattle.rotation.specs.declared.table.Radii.{Radii}
-use Rattle.rotation.specs.declared.table.Radii.TheVariants.{Given}
-use Rattle.rotation.specs.declared.table.Size.{Size}
-use Rattle.rotation.specs.declared.table.Size.TheVariants.{Known, NoSize}
 use Rattle.layout.specs.State.{program}
 use Rattle.layout.specs.Memory.{decode}
 use Rattle.layout.specs.Damage.{sound}
@@ -33,6 +29,7 @@ use Rattle.globe.specs.declared.source.Source.TheVariants as S
 use Rattle.promises.specs.Calls.{measured, asked, library}
 use Rattle.promises.specs.Demands.{Above0, RadiiAbove0}
 use Rattle.promises.proofs.Measured.{measured-exactly, builtin-exactly}
+use Rattle.refusal.specs.declared.Refusal.{Refusal}
 use Rattle.promises.proofs.Overflow.{SmallStatement, doubles-under}
 
 abbrev AllAbove0 : Axes → Type 0
@@ -60,21 +57,21 @@ pool-values m n u =
 three-finite : (x : Axes) → Each (Under 200) (x.a ∷ x.b ∷ x.c ∷ []) → all_finite x ≡ true
 three-finite x f = simp (finite-under x.a f.0, finite-under x.b f.1.0, finite-under x.c f.1.1.0)
 
-from-pool : (m : List ℕ) (n : ℕ) (x : Axes) → radii_reply S.Pool m n ≡ Given x → AllAbove0 x
+from-pool : (m : List ℕ) (n : ℕ) (x : Axes) → radii_reply S.Pool m n ≡ Ok x → AllAbove0 x
 from-pool m n x e =
     let h = (measured-exactly m n x).0 e in
     of-tests x h.1.above (three-finite x (subst (Each (Under 200)) h.1.three (pool-values m n h.0)))
 
 -- ---- from the built-in table
 
-abbrev solid : Size → Bool
-solid (Known x) = all_positive x && all_finite x
-solid NoSize = true
+abbrev solid : Option Axes → Bool
+solid (Some x) = all_positive x && all_finite x
+solid None = true
 
-record Solid (y : Size) : Type 0 where
+record Solid (y : Option Axes) : Type 0 where
   is : solid y ≡ true
 
-either-solid : {x y : Size} (b : Bool) → Solid x → Solid y → Solid (if b then x else y)
+either-solid : {x y : Option Axes} (b : Bool) → Solid x → Solid y → Solid (if b then x else y)
 either-solid true p q = p
 either-solid false p q = q
 
@@ -91,9 +88,9 @@ table-solid n =
     (either-solid (eqb n 899) (record { is = refl })
     (either-solid (eqb n 999) (record { is = refl }) (record { is = refl })))))))))
 
-from-table : (m : List ℕ) (n : ℕ) (x : Axes) → radii_reply S.Builtin m n ≡ Given x → AllAbove0 x
+from-table : (m : List ℕ) (n : ℕ) (x : Axes) → radii_reply S.Builtin m n ≡ Ok x → AllAbove0 x
 from-table m n x e =
-    let h : size_of n ≡ Known x = (builtin-exactly m n x).0 e in
+    let h : size_of n ≡ Some x = (builtin-exactly m n x).0 e in
     let s = both (all_positive x) (all_finite x) (rw h at (table-solid n).is) in
     of-tests x s.0 s.1
 
@@ -101,9 +98,9 @@ pub radii-above-0 : RadiiAbove0 library
 unfolding asked
 radii-above-0 source m n x e = by source (same e)
   where
-    same : {r : Radii} → measured r ≡ measured (Given x) → r ≡ Given x
+    same : {r : Result Axes Refusal} → measured r ≡ measured (Ok x) → r ≡ Ok x
     same e = cc
 
-    by : (source : Source) → radii_reply source m n ≡ Given x → AllAbove0 x
+    by : (source : Source) → radii_reply source m n ≡ Ok x → AllAbove0 x
     by S.Pool h = from-pool m n x h
     by S.Builtin h = from-table m n x h

@@ -7,18 +7,16 @@ use mathlib.Core.Logic.{◌↔◌}
 use borrow.Author.Tests.{ltb-false, le-ltb}
 use lib.Dec.{ltb}
 use lib.ListN.{length}
-use Rattle.std.specs.Prelude.{if◌then◌else◌}
+use Rattle.std.specs.Prelude.{if◌then◌else◌, Ok}
 use Rattle.refusal.specs.declared.Refusal.TheVariants.{LabelHeld, TextTooLong, DamagedPool, TextOpen}
 use Rattle.text.specs.Text.{Read, fine, refused, read_text}
 use Rattle.layout.specs.State.{Pool}
 use Rattle.layout.specs.Limits.{room, LONGEST_LOAD}
 use Rattle.layout.specs.Memory.{decode, opens}
 use Rattle.layout.specs.Damage.{sound}
-use Rattle.pool.specs.Replies.{done, refusing}
+use Rattle.pool.specs.Replies.{Reply, done, refusing}
 use Rattle.pool.specs.Held.{held}
 use Rattle.loading.specs.Load.{text_of, with, admitted, load_answer, load_reply}
-use Rattle.pool.specs.declared.reply.Reply.{Reply}
-use Rattle.pool.specs.declared.reply.Reply.TheVariants.{Done}
 use Rattle.promises.specs.Calls.{load, asked, library, accepted}
 use Rattle.promises.specs.Demands.{Admissible}
 use Rattle.promises.proofs.Refusals.{accepted-done}
@@ -53,10 +51,10 @@ module _ (longest label : ℕ) (bytes : List ℕ) (s : Pool) where
           let p = by-room (read_text bytes) (room (with s (text_of label bytes))) h in
           record { free = f; short = ltb-false longest (length bytes) e; fits = p.0; reads = p.1 }
 
-  pub measured-taken : Taken longest label bytes s → measured longest label bytes s ≡ Done
+  pub measured-taken : Taken longest label bytes s → measured longest label bytes s ≡ Ok tt
   measured-taken t = rw (le-ltb longest (length bytes) t.short, t.fits) (done-only (read_text bytes) t.reads)
     where
-      done-only : (r : Read) → done (admitted r true) ≡ true → admitted r true ≡ Done
+      done-only : (r : Read) → done (admitted r true) ≡ true → admitted r true ≡ Ok tt
       done-only (fine es) e = refl
       done-only (refused q line place) e = absurd (true≢false (sym e))
 
@@ -70,7 +68,7 @@ module _ (label : ℕ) (bytes : List ℕ) (s : Pool) where
       by true f h = absurd (true≢false (sym h))
       by false f h = taken-measured LONGEST_LOAD label bytes s f h
 
-  pub done-taken : Taken LONGEST_LOAD label bytes s → load_answer label bytes s ≡ Done
+  pub done-taken : Taken LONGEST_LOAD label bytes s → load_answer label bytes s ≡ Ok tt
   unfolding load_answer
   done-taken t = rw t.free (measured-taken LONGEST_LOAD label bytes s t)
 
@@ -100,7 +98,7 @@ module _ (label : ℕ) (bytes m : List ℕ) where
   by-damage true u h = by-open (opens m) refl u h
   by-damage false u h = absurd (true≢false (sym h))
 
-  admissible-accepted : Admissible LONGEST_LOAD label bytes m → load_reply label bytes m ≡ Done
+  admissible-accepted : Admissible LONGEST_LOAD label bytes m → load_reply label bytes m ≡ Ok tt
   unfolding load_reply
   admissible-accepted a = rw (a.undamaged, a.none_open) (done-taken label bytes (decode m) (admissible-taken LONGEST_LOAD label bytes m a))
 

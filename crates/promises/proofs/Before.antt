@@ -7,17 +7,15 @@ use mathlib.Core.Bool.{Bool, true, false}
 use borrow.Author.Tests.{le-leb, lt-leb, leb-true, leb-false, eqb-true}
 use lib.Dec.{leb, eqb}
 use lib.Ieee.{Float}
+use Rattle.std.specs.Prelude.{Option, Some, None}
 use Rattle.rotation.specs.Elements.{LINEAR}
 use Rattle.rotation.specs.Codes.{system_of}
-use Rattle.rotation.specs.declared.code.System.{System}
-use Rattle.rotation.specs.declared.code.System.TheVariants.{Of, Nowhere}
 use Rattle.rotation.proofs.Before.{linear-as-before}
 use Rattle.layout.specs.State.{Pool}
 use Rattle.layout.specs.Memory.{decode}
 use Rattle.wanted.specs.Elements.{there, nutating, enough_groups}
 use Rattle.wanted.specs.declared.name.Wanted.TheVariants as W
 use Rattle.degree.specs.Degree.{degree, degree_where}
-use Rattle.degree.specs.declared.Degree.TheVariants as D
 use Rattle.globe.specs.Orientation.{by_elements, orientation_from, orientation_reply}
 use Rattle.promises.specs.Calls.{asked, library, oriented}
 use Rattle.promises.specs.Before.{even_angles, by_elements_before, orientation_before, unannounced, AsBefore}
@@ -49,18 +47,18 @@ even-groups a x y z = by (eqb (a % 2) 0) refl
 -- ---- the answer
 
 module _ (s : Pool) (n : ℕ) (epoch : Float) where
-  linear-elements : (k : ℕ) → degree s n k ≡ D.Of LINEAR → by_elements s n epoch (Of k) ≡ by_elements_before s n epoch (Of k)
+  linear-elements : (k : ℕ) → degree s n k ≡ Some LINEAR → by_elements s n epoch (Some k) ≡ by_elements_before s n epoch (Some k)
   linear-elements k e = simp (e, even-groups, linear-as-before.orientations)
 
   -- a system that announces none has degree 1
-  none-linear : (k : ℕ) (b : Bool) → there s k W.MaxPhaseDegree ≡ false → degree_where b s k ≡ D.Of LINEAR
+  none-linear : (k : ℕ) (b : Bool) → there s k W.MaxPhaseDegree ≡ false → degree_where b s k ≡ Some LINEAR
   unfolding degree_where
   none-linear k true e = rw e
   none-linear k false e = refl
 
-  by-system : (x : System) → unannounced s x → by_elements s n epoch x ≡ by_elements_before s n epoch x
-  by-system (Of k) e = linear-elements k (none-linear k (nutating s n) e)
-  by-system Nowhere e = refl
+  by-system : (x : Option ℕ) → unannounced s x → by_elements s n epoch x ≡ by_elements_before s n epoch x
+  by-system (Some k) e = linear-elements k (none-linear k (nutating s n) e)
+  by-system None e = refl
 
 pub as_before : AsBefore library
 unfolding asked orientation_reply orientation_from orientation_before

@@ -9,20 +9,18 @@ use lib.Dec.{eqb}
 use lib.Ieee.{Float, binary64, of_bits}
 use lib.ListN.{length, take, drop, get_or}
 use lib.Seq.{take_at}
-use Rattle.std.specs.Prelude.{if◌then◌else◌}
+use Rattle.std.specs.Prelude.{if◌then◌else◌, Ok, Result, Err}
 use Rattle.plain.specs.Bytes.{within}
 use Rattle.refusal.specs.Numbers.{SUCCESS}
 use Rattle.layout.specs.State.{Pool}
+use Rattle.variables.specs.declared.variable.FindError.{FindError}
 use Rattle.variables.specs.Variables as D
 use Rattle.variables.specs.Variables.{Datum, variable, present, all_numbers, all_strings}
 use Rattle.variables.specs.Found.{numbers_among, doubles, fitted, found_in, filled}
 use Rattle.variables.specs.Spelled.{letters, string_of, spelled_in}
-use Rattle.variables.specs.declared.variable.Found.{Found}
-use Rattle.variables.specs.declared.variable.Found.TheVariants as W
-use Rattle.pool.specs.Replies.{fetched_number, fetched_count}
+use Rattle.variables.specs.declared.variable.FindError.TheVariants as W
+use Rattle.pool.specs.Replies.{Fetched, fetched_number, fetched_count}
 use Rattle.pool.specs.Fetch as F
-use Rattle.pool.specs.declared.reply.Fetched.{Fetched}
-use Rattle.pool.specs.declared.reply.Fetched.TheVariants.{Count}
 use Rattle.promises.specs.Calls.{fetched, spelled, library}
 use Rattle.promises.specs.Histories.{texts}
 use Rattle.promises.specs.Demand3.{Spoken, SpokenAt, Demand3}
@@ -57,7 +55,7 @@ string-at (D.string s ∷ vs) zero e = refl
 string-at (D.string s ∷ vs) (suc i) e = string-at vs i e
 
 -- what is done was of the kind that is asked for
-kind-asked : (there kind : Bool) (f : Found) (n : ℕ) → F.fetched (if there then (if kind then f else W.Mixed) else W.Absent) ≡ Count n → kind ≡ true
+kind-asked : (there kind : Bool) (f : Result ℕ FindError) (n : ℕ) → F.fetched (if there then (if kind then f else (Err W.Mixed)) else (Err W.Absent)) ≡ Ok n → kind ≡ true
 kind-asked true true f n e = refl
 kind-asked true false f n e = let z : ◌≡◌ {A = ℕ} 0 1 = cc in absurd (omega arith)
 kind-asked false kind f n e = let z : ◌≡◌ {A = ℕ} 0 1 = cc in absurd (omega arith)
@@ -65,21 +63,21 @@ kind-asked false kind f n e = let z : ◌≡◌ {A = ℕ} 0 1 = cc in absurd (om
 -- ---- the two fetches
 
 module _ (name : List ℕ) (s : Pool) (n : ℕ) where
-  numbers-asked : (room : ℕ) → F.fetched (found_in name room s) ≡ Count n → all_numbers (variable name s) ≡ true
+  numbers-asked : (room : ℕ) → F.fetched (found_in name room s) ≡ Ok n → all_numbers (variable name s) ≡ true
   unfolding found_in
   numbers-asked room e = kind-asked (present name s) (all_numbers (variable name s)) (fitted (length (variable name s)) room) n e
 
-  strings-asked : (place room : ℕ) → F.fetched (spelled_in name place room s) ≡ Count n → all_strings (variable name s) ≡ true
+  strings-asked : (place room : ℕ) → F.fetched (spelled_in name place room s) ≡ Ok n → all_strings (variable name s) ≡ true
   unfolding spelled_in
   strings-asked place room e =
       let vs = variable name s in
       kind-asked (within 1 (length vs) place) (all_strings vs) (fitted (length (string_of place vs)) room) n e
 
   spoken : (buffer left : List Float)
-      → fetched (F.fetched (found_in name (length buffer) s)) (filled (found_in name (length buffer) s) (doubles name s) buffer) ≡ fetched (Count n) left
+      → fetched (F.fetched (found_in name (length buffer) s)) (filled (found_in name (length buffer) s) (doubles name s) buffer) ≡ fetched (Ok n) left
       → Spoken name s (take n left)
   spoken buffer left e =
-      let f : F.fetched (found_in name (length buffer) s) ≡ Count n = cc in
+      let f : F.fetched (found_in name (length buffer) s) ≡ Ok n = cc in
       let l : filled (found_in name (length buffer) s) (doubles name s) buffer ≡ left = cc in
       let w = found-written name s buffer (ap (λ (r : Fetched). eqb (fetched_number r) SUCCESS) f) in
       let c : n ≡ length (doubles name s) = sym (ap fetched_count f) ∙ w.told in
@@ -93,11 +91,11 @@ module _ (name : List ℕ) (s : Pool) (n : ℕ) where
 
   spoken-at : (place : ℕ) (buffer left : List ℕ)
       → spelled (F.fetched (spelled_in name place (length buffer) s)) (filled (spelled_in name place (length buffer) s) (string_of place (variable name s)) buffer)
-      ≡ spelled (Count n) left
+      ≡ spelled (Ok n) left
       → SpokenAt name place s (take n left)
   spoken-at place buffer left e =
       let bs = string_of place (variable name s) in
-      let f : F.fetched (spelled_in name place (length buffer) s) ≡ Count n = cc in
+      let f : F.fetched (spelled_in name place (length buffer) s) ≡ Ok n = cc in
       let l : filled (spelled_in name place (length buffer) s) bs buffer ≡ left = cc in
       let w = string-written name place s buffer (ap (λ (r : Fetched). eqb (fetched_number r) SUCCESS) f) in
       let c : n ≡ length bs = sym (ap fetched_count f) ∙ w.told in

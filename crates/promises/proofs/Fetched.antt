@@ -9,7 +9,7 @@ use borrow.Author.Tests.{leb-true}
 use lib.Dec.{eqb, leb}
 use lib.Ieee.{Float}
 use lib.ListN.{length, drop}
-use Rattle.std.specs.Prelude.{if◌then◌else◌}
+use Rattle.std.specs.Prelude.{if◌then◌else◌, Err, Result, Ok}
 use Rattle.plain.specs.Bytes.{within}
 use Rattle.refusal.specs.Numbers.{SUCCESS}
 use Rattle.refusal.specs.declared.Refusal.TheVariants.{DamagedPool}
@@ -17,17 +17,15 @@ use Rattle.words.specs.Over.{over}
 use Rattle.layout.specs.State.{Pool}
 use Rattle.layout.specs.Memory.{decode}
 use Rattle.layout.specs.Damage.{sound}
-use Rattle.pool.specs.Replies.{fetched_number, fetched_count}
+use Rattle.pool.specs.Replies.{Fetched, fetched_number, fetched_count}
+use Rattle.variables.specs.declared.variable.FindError.{FindError}
 use Rattle.variables.specs.Variables.{variable, present, all_numbers, all_strings}
 use Rattle.variables.specs.Found.{doubles, fitted, found_in, filled}
 use Rattle.variables.specs.Spelled.{string_of, spelled_in}
 use Rattle.variables.proofs.Counts.{length-numbers}
 use Rattle.pool.specs.Fetch.{fetched, fetch_reply, fetch_buffer}
 use Rattle.pool.specs.FetchString.{string_reply, string_buffer}
-use Rattle.pool.specs.declared.reply.Fetched.{Fetched}
-use Rattle.pool.specs.declared.reply.Fetched.TheVariants.{Count, Refused}
-use Rattle.variables.specs.declared.variable.Found.{Found}
-use Rattle.variables.specs.declared.variable.Found.TheVariants as W
+use Rattle.variables.specs.declared.variable.FindError.TheVariants as W
 use Rattle.promises.specs.Calls.{asked, library}
 use Rattle.promises.specs.Demands.{FetchWrites, FetchStringWrites}
 
@@ -44,11 +42,11 @@ pub record Written {A : Type 0} (xs buffer : List A) (r : Fetched) (after : List
   pub holds : after ≡ xs ++ drop (length xs) buffer
 
 -- what is found, if the call is done, is written
-abbrev pub WrittenBy : {A : Type 0} (xs buffer : List A) → Found → Type 0
+abbrev pub WrittenBy : {A : Type 0} (xs buffer : List A) → Result ℕ FindError → Type 0
 WrittenBy xs buffer f = eqb (fetched_number (fetched f)) SUCCESS ≡ true → Written xs buffer (fetched f) (filled f xs buffer)
 
 module _ {A : Type 0} (xs buffer : List A) where
-  by-room : (b : Bool) → leb (length xs) (length buffer) ≡ b → WrittenBy xs buffer (if b then W.Count (length xs) else W.TooMany)
+  by-room : (b : Bool) → leb (length xs) (length buffer) ≡ b → WrittenBy xs buffer (if b then Ok (length xs) else (Err W.TooMany))
   by-room true e h = record { told = refl; holds = over-start xs buffer (leb-true (length xs) (length buffer) e) }
   by-room false e h = absurd (true≢false (sym h))
 
@@ -57,17 +55,17 @@ module _ {A : Type 0} (xs buffer : List A) where
   fitted-written n e = rw e (by-room (leb (length xs) (length buffer)) refl)
 
   -- what is there, or not, and of the kind that is asked for, or not
-  by_kind : (b : Bool) (f : Found) → (b ≡ true → WrittenBy xs buffer f) → WrittenBy xs buffer (if b then f else W.Mixed)
+  by_kind : (b : Bool) (f : Result ℕ FindError) → (b ≡ true → WrittenBy xs buffer f) → WrittenBy xs buffer (if b then f else (Err W.Mixed))
   by_kind true f w h = w refl h
   by_kind false f w h = absurd (true≢false (sym h))
 
-  by-presence : (b : Bool) (f : Found) → (b ≡ true → WrittenBy xs buffer f) → WrittenBy xs buffer (if b then f else W.Absent)
+  by-presence : (b : Bool) (f : Result ℕ FindError) → (b ≡ true → WrittenBy xs buffer f) → WrittenBy xs buffer (if b then f else (Err W.Absent))
   by-presence true f w h = w refl h
   by-presence false f w h = absurd (true≢false (sym h))
 
   -- and the pool is undamaged, or not
-  undamaged-written : (b : Bool) (f : Found) → WrittenBy xs buffer f → eqb (fetched_number (if b then fetched f else Refused DamagedPool)) SUCCESS ≡ true
-      → Written xs buffer (if b then fetched f else Refused DamagedPool) (if b then filled f xs buffer else buffer)
+  undamaged-written : (b : Bool) (f : Result ℕ FindError) → WrittenBy xs buffer f → eqb (fetched_number (if b then fetched f else Err DamagedPool)) SUCCESS ≡ true
+      → Written xs buffer (if b then fetched f else Err DamagedPool) (if b then filled f xs buffer else buffer)
   undamaged-written true f w h = w h
   undamaged-written false f w h = absurd (true≢false (sym h))
 
@@ -75,7 +73,7 @@ pub found-written : (name : List ℕ) (s : Pool) (buffer : List Float) → Writt
 unfolding found_in
 found-written name s buffer =
     let vs = variable name s in
-    by-presence (doubles name s) buffer (present name s) (if all_numbers vs then fitted (length vs) (length buffer) else W.Mixed)
+    by-presence (doubles name s) buffer (present name s) (if all_numbers vs then fitted (length vs) (length buffer) else (Err W.Mixed))
     (λ p. by_kind (doubles name s) buffer (all_numbers vs) (fitted (length vs) (length buffer))
     (λ k. fitted-written (doubles name s) buffer (length vs) (sym (length-numbers vs k))))
 
@@ -85,7 +83,7 @@ unfolding spelled_in
 string-written name place s buffer =
     let vs = variable name s in
     let bs = string_of place vs in
-    by-presence bs buffer (within 1 (length vs) place) (if all_strings vs then fitted (length bs) (length buffer) else W.Mixed)
+    by-presence bs buffer (within 1 (length vs) place) (if all_strings vs then fitted (length bs) (length buffer) else (Err W.Mixed))
     (λ p. by_kind bs buffer (all_strings vs) (fitted (length bs) (length buffer)) (λ k. fitted-written bs buffer (length bs) refl))
 
 pub fetch-writes : FetchWrites library

@@ -5,6 +5,7 @@ use mathlib.Core.Bool.{Bool, true, false, true≢false}
 use mathlib.Core.List.{List, []}
 use native.Mathlib.Omega.{arith}
 use lib.ListN.{length}
+use Rattle.std.specs.Prelude.{Ok}
 use Rattle.statement.specs.Statements.{statements}
 use Rattle.text.specs.Text.{Read, fine, refused, read_text, added}
 use Rattle.plain.proofs.Each.{Each}
@@ -18,7 +19,6 @@ use Rattle.layout.proofs.Holds.{decode-fits, decode-legal, decode-put, put-sound
 use Rattle.pool.specs.Replies.{done}
 use Rattle.loading.specs.Load.{text_of, with, admitted, load_answer, load_reply, load_memory}
 use Rattle.pool.specs.Remove.{without}
-use Rattle.pool.specs.declared.reply.Reply.TheVariants.{Done}
 use Rattle.feeding.specs.Parts.{Open}
 use Rattle.opening.specs.Storing.{Progress}
 use Rattle.intake.specs.Opened.{state_in}
@@ -93,7 +93,7 @@ module _ (m : List ℕ) (e : sound m ≡ true) where
       let p = proper-with (decode m) (text_of label bytes) (proper-decoded m e) t.free (added-fair bytes t.reads) in
       put_is (with (decode m) (text_of label bytes)) m (sound-size m e) t.fits p
 
-  pub loaded-is : (label : ℕ) (bytes : List ℕ) → opens m ≡ false → load_answer label bytes (decode m) ≡ Done
+  pub loaded-is : (label : ℕ) (bytes : List ℕ) → opens m ≡ false → load_answer label bytes (decode m) ≡ Ok tt
       → Is (leaves (C.load label bytes) m) (closed (with (decode m) (text_of label bytes)))
   unfolding leaves load_memory load_reply
   loaded-is label bytes o d = rw (e, o, d) (load_is label bytes (ap done d))

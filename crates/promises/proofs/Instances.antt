@@ -6,6 +6,7 @@ use mathlib.Core.List.{List, [], ◌∷◌}
 use lib.Dec.{eqb, lit<, lit≤}
 use lib.Ieee.{Float}
 use lib.ListN.{length, replicate}
+use Rattle.std.specs.Prelude.{Some}
 use Rattle.plain.specs.Doubles.{printed, nought}
 use Rattle.rotation.specs.Epochs.{in_reach}
 use Rattle.rotation.specs.Codes.{system_of}
@@ -14,7 +15,6 @@ use Rattle.rotation.specs.Builtin.{row_evaluated}
 use Rattle.rotation.specs.declared.elements.Elements.{Elements}
 use Rattle.rotation.specs.declared.matrix.Orientation.{Orientation}
 use Rattle.rotation.specs.declared.table.Axes.{Axes}
-use Rattle.rotation.specs.declared.table.Size.TheVariants.{Known}
 use Rattle.words.specs.Halves.{sum, distinct, all}
 use Rattle.layout.specs.Limits.{WORDS, LONGEST_LOAD}
 use Rattle.layout.specs.Memory.{decode, opens, cut_texts, cut_statements}
@@ -148,11 +148,11 @@ mercury = record { a = printed 24397 1; b = printed 24397 1; c = printed 24397 1
 pub pluto : Axes
 pluto = record { a = printed 1195 0; b = printed 1195 0; c = printed 1195 0 }
 
-pub mercury-given : size_of 199 ≡ Known mercury
+pub mercury-given : size_of 199 ≡ Some mercury
 unfolding size_of mercury
 mercury-given = refl
 
-pub pluto-given : size_of 999 ≡ Known pluto
+pub pluto-given : size_of 999 ≡ Some pluto
 unfolding size_of pluto
 pluto-given = refl
 

@@ -4,7 +4,7 @@ use Prim.Native.Nat.{ℕ}
 use mathlib.Core.Path.{◌≡◌, refl, sym, ap, ◌∙◌}
 use mathlib.Core.Bool.{Bool, true, false}
 use mathlib.Core.List.{List, [], ◌∷◌, ◌++◌, map}
-use Rattle.std.specs.Prelude.{if◌then◌else◌}
+use Rattle.std.specs.Prelude.{if◌then◌else◌, Ok}
 use Rattle.plain.proofs.Tests.{first_then}
 use Rattle.plain.proofs.Each.{each_append, each_left}
 use Rattle.refusal.specs.declared.Refusal.TheVariants.{LabelHeld, NotHeld}
@@ -15,7 +15,6 @@ use Rattle.pool.specs.Replies.{reply_number, done, refusing}
 use Rattle.pool.specs.Held.{held}
 use Rattle.loading.specs.Load.{text_of, with, load_answer}
 use Rattle.pool.specs.Remove.{without}
-use Rattle.pool.specs.declared.reply.Reply.TheVariants.{Done}
 use Rattle.feeding.specs.Parts.{MOST, Open, opening, fed, fed_all, joined}
 use Rattle.opening.specs.Storing.{Progress, start, complete}
 use Rattle.opening.specs.Closing.{close_answer, closed_pool, loaded_answer}
@@ -109,8 +108,8 @@ module _ (ks : List Loaded) (g : Together ks) where
   load_goes label bytes false h = unchanged none tt
 
   open-goes : (label : ℕ) (b : Bool) → held label s ≡ b
-      → Goes (if done (if b then refusing LabelHeld else Done) then record { texts = s; opened = ajar label (opening start) } else closed s)
-      (if accepted (C.replied (if b then refusing LabelHeld else Done)) then kept_as ks (some label []) else H.closed ks)
+      → Goes (if done (if b then refusing LabelHeld else Ok tt) then record { texts = s; opened = ajar label (opening start) } else closed s)
+      (if accepted (C.replied (if b then refusing LabelHeld else Ok tt)) then kept_as ks (some label []) else H.closed ks)
   unfolding fed_all all
   open-goes label true h = unchanged none tt
   open-goes label false h = record { state = refl; good = record { together = g; opened = (h, refl) } }
@@ -148,8 +147,8 @@ module _ (ks : List Loaded) (g : Together ks) where
         rw ((told s o).ends d) (shut-goes (closed_pool s label o) ks p g)
 
   remove-goes : (label : ℕ) (b : Bool)
-      → Goes (if done (if b then Done else refusing NotHeld) then closed (without label s) else closed s)
-      (if accepted (C.replied (if b then Done else refusing NotHeld)) then H.closed (removing label ks) else H.closed ks)
+      → Goes (if done (if b then Ok tt else refusing NotHeld) then closed (without label s) else closed s)
+      (if accepted (C.replied (if b then Ok tt else refusing NotHeld)) then H.closed (removing label ks) else H.closed ks)
   remove-goes label true = shut-goes (without label s) (removing label ks) (sym (map-removing label ks)) (together-removing label ks g)
   remove-goes label false = unchanged none tt
 

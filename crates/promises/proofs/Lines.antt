@@ -5,20 +5,18 @@ use mathlib.Core.Bool.{Bool, true, false, true≢false}
 use mathlib.Core.List.{List}
 use lib.Dec.{ltb}
 use lib.ListN.{length}
-use Rattle.std.specs.Prelude.{if◌then◌else◌}
+use Rattle.std.specs.Prelude.{if◌then◌else◌, Ok}
 use Rattle.refusal.specs.declared.Refusal.{Refusal}
 use Rattle.refusal.specs.declared.Refusal.TheVariants as Q
 use Rattle.text.specs.Text.{Read, fine, refused, read_text}
 use Rattle.layout.specs.Limits.{room, LONGEST_LOAD}
 use Rattle.layout.specs.Memory.{decode, opens}
 use Rattle.layout.specs.Damage.{sized, sound}
-use Rattle.pool.specs.Replies.{refusing}
+use Rattle.pool.specs.Replies.{Reply, refusing}
 use Rattle.pool.specs.Empty.{empty_reply, clear_reply}
 use Rattle.pool.specs.Held.{held}
 use Rattle.loading.specs.Load.{text_of, with, admitted, load_answer, load_reply}
 use Rattle.pool.specs.Remove.{remove_reply}
-use Rattle.pool.specs.declared.reply.Reply.{Reply}
-use Rattle.pool.specs.declared.reply.Reply.TheVariants as R
 use Rattle.intake.specs.Opened.{state_in}
 use Rattle.intake.specs.Calls.{open_reply, feed_reply, close_reply}
 use Rattle.promises.specs.Calls as C
@@ -26,7 +24,7 @@ use Rattle.promises.specs.Calls.{Call, asked, number, line, column}
 use Rattle.promises.specs.Demands.{points}
 use Rattle.promises.proofs.Told.{Lined, fault-number, told}
 
-done-lined : Lined R.Done
+done-lined : Lined (Ok tt)
 done-lined = record { others = λ e. (refl, refl) }
 
 refusing-lined : (q : Refusal) → Lined (refusing q)

@@ -7,6 +7,7 @@ use mathlib.Core.List.{List}
 use borrow.Author.Tests.{lt-ltb, le-ltb, lt-leb}
 use lib.Ieee.{Float}
 use lib.ListN.{length}
+use Rattle.std.specs.Prelude.{Option, Some, None}
 use Rattle.plain.proofs.Tests.{true-false}
 use Rattle.refusal.specs.Numbers.{number_of}
 use Rattle.refusal.specs.declared.Refusal.TheVariants as Q
@@ -14,9 +15,6 @@ use Rattle.rotation.specs.Epochs.{in_reach}
 use Rattle.rotation.specs.Codes.{system_of}
 use Rattle.rotation.specs.Table.{row_of}
 use Rattle.rotation.specs.Builtin.{by_system, builtin_orientation, builtin_radii}
-use Rattle.rotation.specs.declared.code.System.{System}
-use Rattle.rotation.specs.declared.code.System.TheVariants.{Of, Nowhere}
-use Rattle.rotation.specs.declared.table.Row.TheVariants.{NoRow}
 use Rattle.layout.specs.Limits.{LONGEST_LOAD}
 use Rattle.layout.specs.Memory.{decode, opens}
 use Rattle.layout.specs.Damage.{sound}
@@ -156,13 +154,13 @@ radii n m e =
       bad_radius = λ k s t x c p. simp (e, s, t, x, c, p);
     }
 
-table-rows : (n : ℕ) (epoch : Float) (m : List ℕ) → in_reach epoch ≡ true → row_of n ≡ NoRow → Refuses library (C.orientation S.Builtin n epoch) m Q.UnknownBody
+table-rows : (n : ℕ) (epoch : Float) (m : List ℕ) → in_reach epoch ≡ true → row_of n ≡ None → Refuses library (C.orientation S.Builtin n epoch) m Q.UnknownBody
 unfolding asked orientation_reply builtin_orientation
 table-rows n epoch m r h = rw r (by (system_of n))
   where
-    by : (s : System) → number (C.oriented (by_system n epoch s)) ≡ number_of Q.UnknownBody
-    by (Of k) = rw h
-    by Nowhere = refl
+    by : (s : Option ℕ) → number (C.oriented (by_system n epoch s)) ≡ number_of Q.UnknownBody
+    by (Some k) = rw h
+    by None = refl
 
 pub in_order : InOrder library
 unfolding asked empty_reply open_reply remove_reply orientation_reply builtin_orientation radii_reply builtin_radii

@@ -9,7 +9,7 @@ use borrow.Author.Tests.{leb-true}
 use lib.Dec.{eqb, leb, lit<}
 use lib.Ieee.{Float, nan, round}
 use lib.ListN.{length, get_or}
-use Rattle.std.specs.Prelude.{if◌then◌else◌}
+use Rattle.std.specs.Prelude.{if◌then◌else◌, Some, Result, Ok}
 use Rattle.plain.specs.Doubles.{printed}
 use Rattle.plain.proofs.Bounded.{Under}
 use Rattle.rotation.specs.Elements.{LINEAR, CUBIC, GROUPS, groups, Enough}
@@ -18,12 +18,8 @@ use Rattle.rotation.specs.Table.{row_of, neptune_angle, neptune_ra, neptune_dec,
 use Rattle.rotation.specs.Builtin.{neptunes}
 use Rattle.rotation.specs.Finite.{Finite, SmallPolynomial, SmallValues, SmallInput}
 use Rattle.rotation.specs.Overflow.{NeverOverflows}
-use Rattle.rotation.specs.declared.code.System.TheVariants.{Of}
 use Rattle.rotation.specs.declared.elements.Elements.{Elements}
 use Rattle.rotation.specs.declared.matrix.Orientation.{Orientation}
-use Rattle.rotation.specs.declared.matrix.Oriented.{Oriented}
-use Rattle.rotation.specs.declared.matrix.Oriented.TheVariants as O
-use Rattle.rotation.specs.declared.table.Row.TheVariants.{Held}
 use Rattle.rotation.proofs.Overflow.{never-overflows}
 use Rattle.rotation.proofs.Answers.{row-never-overflows, builtin-finite}
 use Rattle.statement.specs.Statements.{Values, numbers, strings, Statement}
@@ -41,7 +37,6 @@ use Rattle.variables.proofs.Presence.{absent-empty}
 use Rattle.wanted.specs.Names.{name_of}
 use Rattle.wanted.specs.Elements.{there, list, polynomial, elements, few_values, nutating, enough_angles, well_counted, angles}
 use Rattle.degree.specs.Degree.{degree}
-use Rattle.degree.specs.declared.Degree.TheVariants as D
 use Rattle.degree.proofs.Degrees.{degree-low}
 use Rattle.globe.specs.Orientation.{orientation_reply}
 use Rattle.wanted.specs.declared.name.Wanted.{Wanted}
@@ -51,6 +46,7 @@ use Rattle.globe.specs.declared.source.Source.TheVariants as S
 use Rattle.promises.specs.Calls.{asked, library, oriented}
 use Rattle.promises.specs.Demands.{NoOverflow}
 use Rattle.layout.proofs.Small.{small-below}
+use Rattle.refusal.specs.declared.Refusal.{Refusal}
 use Rattle.promises.proofs.Oriented.{given-exactly, builtin-exactly}
 
 -- ---- the values of a variable
@@ -161,7 +157,7 @@ module _ (degree : ℕ) (low : degree ≤ CUBIC) where
         by true q h = counted-there (list s k W.NutPrecAngles) (list s n W.NutPrecRa) (list s n W.NutPrecDec) (list s n W.NutPrecPm) h
         by false q h = counted-absent q
 
-small-input : (s : Pool) (n k d : ℕ) → Each SmallStatement (program s) → degree s n k ≡ D.Of d → well_counted s n k d ≡ true
+small-input : (s : Pool) (n k d : ℕ) → Each SmallStatement (program s) → degree s n k ≡ Some d → well_counted s n k d ≡ true
     → SmallInput (elements s n) d (angles s n k) (list s n W.NutPrecRa) (list s n W.NutPrecDec) (list s n W.NutPrecPm)
 small-input s n k d f g e =
     let c = counted d ((degree-low (nutating s n) s k refl).cubic d g) s n k e in
@@ -187,7 +183,7 @@ small-input s n k d f g e =
 -- ---- every orientation
 
 module _ (m : List ℕ) (n : ℕ) (epoch : Float) (o : Orientation) where
-  pool-steps : (k d : ℕ) → orientation_reply S.Pool m n epoch ≡ O.Given o → system_of n ≡ Of k → degree (decode m) n k ≡ D.Of d
+  pool-steps : (k d : ℕ) → orientation_reply S.Pool m n epoch ≡ Ok o → system_of n ≡ Some k → degree (decode m) n k ≡ Some d
       → NeverOverflows (elements (decode m) n) epoch d (angles (decode m) n k)
       (list (decode m) n W.NutPrecRa) (list (decode m) n W.NutPrecDec) (list (decode m) n W.NutPrecPm)
   pool-steps k d e l g =
@@ -195,18 +191,18 @@ module _ (m : List ℕ) (n : ℕ) (epoch : Float) (o : Orientation) where
       let fair = (decode-legal m (sound-of m h.0)).statements in
       let legal = h.1.legal in
       let same : h.1.system ≡ k = cc in
-      let told = subst (λ (i : ℕ). degree (decode m) n i ≡ D.Of h.1.degree) same h.1.announced in
+      let told = subst (λ (i : ℕ). degree (decode m) n i ≡ Some h.1.degree) same h.1.announced in
       let alike : h.1.degree ≡ d = cc in
       let counts = subst (λ (i : ℕ). well_counted (decode m) n i h.1.degree ≡ true) same h.1.counts in
       never-overflows _ epoch d _ _ _ _ h.1.reach
       (small-input (decode m) n k d (each_weaken Fair SmallStatement (λ x g. g.values) (program (decode m)) fair) g
       (subst (λ (i : ℕ). well_counted (decode m) n k i ≡ true) alike counts))
 
-  table-steps : (row : Elements) → orientation_reply S.Builtin m n epoch ≡ O.Given o → row_of n ≡ Held row
+  table-steps : (row : Elements) → orientation_reply S.Builtin m n epoch ≡ Ok o → row_of n ≡ Some row
       → NeverOverflows row epoch LINEAR (neptunes n neptune_angle) (neptunes n neptune_ra) (neptunes n neptune_dec) (neptunes n neptune_pm)
   table-steps row e l = row-never-overflows n epoch row ((builtin-exactly m n epoch o).0 e).reach l
 
-finite : (source : Source) (m : List ℕ) (n : ℕ) (epoch : Float) (o : Orientation) → orientation_reply source m n epoch ≡ O.Given o → Finite o
+finite : (source : Source) (m : List ℕ) (n : ℕ) (epoch : Float) (o : Orientation) → orientation_reply source m n epoch ≡ Ok o → Finite o
 unfolding orientation_reply
 finite S.Builtin m n epoch o e = builtin-finite n epoch o e
 finite S.Pool m n epoch o e =
@@ -222,5 +218,5 @@ no_overflow =
       tables = λ m n epoch o row e l. table-steps m n epoch o row (same e) l;
     }
   where
-    same : {r : Oriented} {o : Orientation} → oriented r ≡ oriented (O.Given o) → r ≡ O.Given o
+    same : {r : Result Orientation Refusal} {o : Orientation} → oriented r ≡ oriented (Ok o) → r ≡ Ok o
     same e = cc

@@ -8,7 +8,7 @@ use mathlib.Core.List.{List, [], ◌∷◌, map}
 use mathlib.Core.Logic.{◌↔◌}
 use borrow.Author.Tests.{le-ltb}
 use lib.ListN.{length}
-use Rattle.std.specs.Prelude.{if◌then◌else◌}
+use Rattle.std.specs.Prelude.{if◌then◌else◌, Ok}
 use Rattle.plain.proofs.Tests.{true-false}
 use Rattle.refusal.specs.declared.Refusal.TheVariants.{LabelHeld, NotHeld, DamagedPool, TextOpen}
 use Rattle.words.specs.Halves.{all}
@@ -16,11 +16,9 @@ use Rattle.layout.specs.State.{Pool}
 use Rattle.layout.specs.Limits.{room, LONGEST_LOAD}
 use Rattle.layout.specs.Memory.{decode, opens}
 use Rattle.layout.specs.Damage.{sound}
-use Rattle.pool.specs.Replies.{done, refusing}
+use Rattle.pool.specs.Replies.{Reply, done, refusing}
 use Rattle.pool.specs.Held.{held}
 use Rattle.loading.specs.Load.{text_of, with, load_answer}
-use Rattle.pool.specs.declared.reply.Reply.{Reply}
-use Rattle.pool.specs.declared.reply.Reply.TheVariants.{Done}
 use Rattle.feeding.specs.Parts.{MOST, joined}
 use Rattle.opening.specs.Closing.{loaded_answer}
 use Rattle.opening.proofs.Closing.{cut-in-pool}
@@ -70,17 +68,17 @@ pub openable : (label : ℕ) (m : List ℕ) → accepted (asked (C.open_load lab
 unfolding asked open_reply
 openable label m h = by-damage (sound m) refl (sym (accepted-done (open_reply label m)) ∙ h)
   where
-    by-label : (b : Bool) → held label (decode m) ≡ b → sound m ≡ true → opens m ≡ false → done (if b then refusing LabelHeld else Done) ≡ true → Openable label m
+    by-label : (b : Bool) → held label (decode m) ≡ b → sound m ≡ true → opens m ≡ false → done (if b then refusing LabelHeld else Ok tt) ≡ true → Openable label m
     by-label true f e o h = true-false (sym h)
     by-label false f e o h = record { undamaged = e; none_open = o; free = f }
 
     by-open : (b : Bool) → opens m ≡ b → sound m ≡ true
-        → done (if b then refusing TextOpen else (if held label (decode m) then refusing LabelHeld else Done)) ≡ true → Openable label m
+        → done (if b then refusing TextOpen else (if held label (decode m) then refusing LabelHeld else Ok tt)) ≡ true → Openable label m
     by-open true o e h = true-false (sym h)
     by-open false o e h = by-label (held label (decode m)) refl e o h
 
     by-damage : (b : Bool) → sound m ≡ b
-        → done (if b then (if opens m then refusing TextOpen else (if held label (decode m) then refusing LabelHeld else Done)) else refusing DamagedPool) ≡ true
+        → done (if b then (if opens m then refusing TextOpen else (if held label (decode m) then refusing LabelHeld else Ok tt)) else refusing DamagedPool) ≡ true
         → Openable label m
     by-damage true e h = by-open (opens m) refl e h
     by-damage false e h = true-false (sym h)

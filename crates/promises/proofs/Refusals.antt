@@ -7,26 +7,23 @@ use mathlib.Core.List.{List, []}
 use lib.Dec.{eqb}
 use lib.Ieee.{Float}
 use lib.ListN.{length}
-use Rattle.std.specs.Prelude.{if◌then◌else◌}
+use Rattle.std.specs.Prelude.{if◌then◌else◌, Ok, Err, Result}
 use Rattle.refusal.specs.Numbers.{SUCCESS, number_of}
 use Rattle.refusal.specs.declared.Refusal.{Refusal}
 use Rattle.refusal.specs.declared.Refusal.TheVariants as Q
 use Rattle.layout.specs.Memory.{decode, put, opens, open_label}
 use Rattle.layout.specs.Damage.{sound}
-use Rattle.pool.specs.Replies.{reply_number, fetched_number, done, refusing}
+use Rattle.pool.specs.Replies.{Reply, reply_number, fetched_number, done, refusing}
 use Rattle.pool.specs.Empty.{empty_reply, clear_reply}
 use Rattle.loading.specs.Load.{text_of, with, load_reply, load_memory}
 use Rattle.pool.specs.Remove.{without, remove_reply, remove_memory}
+use Rattle.variables.specs.declared.variable.FindError.{FindError}
 use Rattle.variables.specs.Variables.{variable}
 use Rattle.variables.specs.Found.{doubles, found_in, filled}
 use Rattle.variables.specs.Spelled.{string_of, spelled_in}
 use Rattle.pool.specs.Fetch.{fetched, fetch_reply, fetch_buffer}
 use Rattle.pool.specs.FetchString.{string_reply, string_buffer}
-use Rattle.pool.specs.declared.reply.Reply.{Reply}
-use Rattle.pool.specs.declared.reply.Reply.TheVariants as R
-use Rattle.pool.specs.declared.reply.Fetched.TheVariants as F
-use Rattle.variables.specs.declared.variable.Found.{Found}
-use Rattle.variables.specs.declared.variable.Found.TheVariants as W
+use Rattle.variables.specs.declared.variable.FindError.TheVariants as W
 use Rattle.opening.specs.Closing.{close_answer, closed_pool}
 use Rattle.intake.specs.Opened.{state_in, stowed, beginning, shut}
 use Rattle.intake.specs.Calls.{open_reply, open_memory, feed_reply, feed_memory, drop_memory, close_reply, close_memory}
@@ -64,21 +61,21 @@ refused-number Q.BadPosition = refl
 
 -- a call that changes the pool is accepted exactly when it is done
 pub accepted-done : (r : Reply) → eqb (reply_number r) SUCCESS ≡ done r
-accepted-done R.Done = refl
-accepted-done (R.Refused q line column) = refused-number q
+accepted-done (Ok u) = refl
+accepted-done (Err r) = refused-number r.refusal
 
 -- memory that is written only where the call is done
 unwritten : (r : Reply) (after before : List ℕ) → eqb (reply_number r) SUCCESS ≡ false → (if done r then after else before) ≡ before
-unwritten R.Done after before e = absurd (true≢false e)
-unwritten (R.Refused q line column) after before e = refl
+unwritten (Ok u) after before e = absurd (true≢false e)
+unwritten (Err r) after before e = refl
 
 -- a buffer that is written only where the pool is undamaged and what is asked for is found, with room for it
-untouched : {A : Type 0} (b : Bool) (r : Found) (xs buffer : List A)
-    → eqb (fetched_number (if b then fetched r else F.Refused Q.DamagedPool)) SUCCESS ≡ false → (if b then filled r xs buffer else buffer) ≡ buffer
-untouched true (W.Count n) xs buffer e = absurd (true≢false e)
-untouched true W.TooMany xs buffer e = refl
-untouched true W.Mixed xs buffer e = refl
-untouched true W.Absent xs buffer e = refl
+untouched : {A : Type 0} (b : Bool) (r : Result ℕ FindError) (xs buffer : List A)
+    → eqb (fetched_number (if b then fetched r else Err Q.DamagedPool)) SUCCESS ≡ false → (if b then filled r xs buffer else buffer) ≡ buffer
+untouched true (Ok n) xs buffer e = absurd (true≢false e)
+untouched true (Err W.TooMany) xs buffer e = refl
+untouched true (Err W.Mixed) xs buffer e = refl
+untouched true (Err W.Absent) xs buffer e = refl
 untouched false r xs buffer e = refl
 
 -- ---- a closing
@@ -88,8 +85,8 @@ closing-writes : (b o : Bool) (r : Reply) (after before : List ℕ) → Ends r
     → let c = if b then (if o then r else refusing Q.NotHeld) else refusing Q.DamagedPool in
     eqb (reply_number c) SUCCESS ≡ false
     → (if b && o then (if done c then after else shut before) else before) ≡ (if ends_open close_load (reply_number c) then shut before else before)
-closing-writes true true (R.Refused q line column) after before w e = rw (w refl)
-closing-writes true true R.Done after before w e = absurd (true≢false e)
+closing-writes true true (Err r) after before w e = rw (w refl)
+closing-writes true true (Ok u) after before w e = absurd (true≢false e)
 closing-writes true false r after before w e = refl
 closing-writes false o r after before w e = refl
 

@@ -5,15 +5,14 @@ use mathlib.Core.Path.{◌≡◌, refl, sym}
 use mathlib.Core.Bool.{true, true≢false}
 use borrow.Author.Tests.{leb-true}
 use lib.Dec.{leb}
+use Rattle.std.specs.Prelude.{Ok, Err}
 use Rattle.plain.specs.Bytes.{within}
 use Rattle.plain.proofs.Ranges.{within-inside}
 use Rattle.plain.proofs.Tests.{both}
 use Rattle.refusal.specs.Numbers.{number_of}
 use Rattle.refusal.proofs.Before.{OneOfFive, five-split, others-stay, same_number}
 use Rattle.loading.specs.Load.{load_reply}
-use Rattle.pool.specs.Replies.{reply_line}
-use Rattle.pool.specs.declared.reply.Reply.{Reply}
-use Rattle.pool.specs.declared.reply.Reply.TheVariants.{Done, Refused}
+use Rattle.pool.specs.Replies.{Reply, reply_line}
 use Rattle.promises.specs.Calls.{asked, replied, library}
 use Rattle.promises.specs.Renumbered.{reply_before, Renumbers, Renumbered}
 
@@ -21,11 +20,11 @@ inside : (n : ℕ) → within 17 21 n ≡ true → OneOfFive n
 inside n e = let h = both (leb 17 n) (leb n 21) e in record { least = leb-true 17 n h.0; most = leb-true n 21 h.1 }
 
 renumbers : (r : Reply) → Renumbers (reply_before r) (reply_line r) (replied r)
-renumbers Done = record { five = (λ e. absurd (omega arith), λ e. absurd (true≢false (sym e))); others = λ h. refl; lines = refl }
-renumbers (Refused q line column) =
+renumbers (Ok u) = record { five = (λ e. absurd (omega arith), λ e. absurd (true≢false (sym e))); others = λ h. refl; lines = refl }
+renumbers (Err r) =
     record {
-      five = (λ e. let o = (five-split q).0 e in within-inside 17 21 (number_of q) o.least o.most, λ e. (five-split q).1 (inside (number_of q) e));
-      others = λ h. sym (others-stay q h);
+      five = (λ e. let o = (five-split r.refusal).0 e in within-inside 17 21 (number_of r.refusal) o.least o.most, λ e. (five-split r.refusal).1 (inside (number_of r.refusal) e));
+      others = λ h. sym (others-stay r.refusal h);
       lines = refl;
     }
 

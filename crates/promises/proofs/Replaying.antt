@@ -3,15 +3,13 @@ use Prim.Native.Nat.{ℕ}
 use mathlib.Core.Path.{◌≡◌, refl, sym, ap, ◌∙◌, subst}
 use mathlib.Core.Bool.{true}
 use mathlib.Core.List.{List, [], ◌∷◌, ◌++◌, map, append_assoc, append-nil}
-use Rattle.std.specs.Prelude.{if◌then◌else◌}
+use Rattle.std.specs.Prelude.{if◌then◌else◌, Ok}
 use Rattle.plain.proofs.Each.{Each}
 use Rattle.words.specs.Halves.{all}
 use Rattle.layout.specs.State.{Pool}
 use Rattle.layout.specs.Limits.{room}
-use Rattle.pool.specs.Replies.{done}
+use Rattle.pool.specs.Replies.{Reply, done}
 use Rattle.loading.specs.Load.{text_of, with}
-use Rattle.pool.specs.declared.reply.Reply.{Reply}
-use Rattle.pool.specs.declared.reply.Reply.TheVariants.{Done}
 use Rattle.feeding.specs.Parts.{MOST, joined}
 use Rattle.opening.specs.Closing.{loaded_answer}
 use Rattle.promises.specs.Calls as C
@@ -36,7 +34,7 @@ module _ (s : Pool) (r : room s ≡ true) (label : ℕ) where
   unfolding steps AllSaid
   brings-one (whole bytes) t = let d = done-taken label bytes s t in record { said = (rw d, tt); state = rw d }
   brings-one (in_parts parts) t =
-      let d : loaded_answer label (joined parts) s ≡ Done = measured-taken MOST label (joined parts) s t in
+      let d : loaded_answer label (joined parts) s ≡ Ok tt = measured-taken MOST label (joined parts) s t in
       let o = steps-opened s label t.free parts in
       let opens = C.open_load label ∷ map C.feed_part parts in
       let y : accepted (says C.close_load (fed_to s label parts)) ≡ true = ap accepted (closing-says s label parts r ∙ ap C.replied d) in

@@ -6,7 +6,7 @@ use mathlib.Core.Bool.{Bool, true, false}
 use mathlib.Core.List.{List}
 use borrow.Author.Tests.{eq-eqb}
 use lib.ListN.{length}
-use Rattle.std.specs.Prelude.{if◌then◌else◌}
+use Rattle.std.specs.Prelude.{if◌then◌else◌, Ok}
 use Rattle.plain.proofs.Tests.{true-false}
 use Rattle.refusal.specs.declared.Refusal.TheVariants.{LabelHeld, NotHeld, TextOpen}
 use Rattle.rotation.specs.Builtin.{builtin_orientation, builtin_radii}
@@ -15,7 +15,7 @@ use Rattle.layout.specs.Limits.{WORDS}
 use Rattle.layout.specs.Memory.{decode, opens, open_label}
 use Rattle.layout.specs.Damage.{sized, sound}
 use Rattle.layout.proofs.Sound.{sound-of}
-use Rattle.pool.specs.Replies.{refusing}
+use Rattle.pool.specs.Replies.{Reply, refusing}
 use Rattle.pool.specs.Empty.{empty_reply, clear_reply}
 use Rattle.pool.specs.Held.{held}
 use Rattle.loading.specs.Load.{load_answer, load_reply}
@@ -26,8 +26,6 @@ use Rattle.variables.specs.Spelled.{string_of, spelled_in}
 use Rattle.pool.specs.Fetch.{fetched, fetch_reply, fetch_buffer}
 use Rattle.pool.specs.FetchString.{string_reply, string_buffer}
 use Rattle.pool.specs.Totals.{counts, totals_reply}
-use Rattle.pool.specs.declared.reply.Reply.{Reply}
-use Rattle.pool.specs.declared.reply.Reply.TheVariants.{Done}
 use Rattle.feeding.specs.Parts.{Open}
 use Rattle.opening.specs.Storing.{Progress}
 use Rattle.opening.specs.Closing.{close_answer}
@@ -72,17 +70,17 @@ wanting_one shut f = refusing NotHeld
 wanting_one (ajar label o) f = f o
 
 abbrev pub open_answer : (label : ℕ) → Pool → Reply
-open_answer label s = if held label s then refusing LabelHeld else Done
+open_answer label s = if held label s then refusing LabelHeld else Ok tt
 
 unfoldable pub says : Call → State → Answer
-says C.make_empty s = C.replied Done
+says C.make_empty s = C.replied (Ok tt)
 says (C.load label bytes) s = C.replied (wanting_none s.opened (load_answer label bytes s.texts))
 says (C.open_load label) s = C.replied (wanting_none s.opened (open_answer label s.texts))
-says (C.feed_part part) s = C.replied (wanting_one s.opened (λ o. Done))
+says (C.feed_part part) s = C.replied (wanting_one s.opened (λ o. Ok tt))
 says C.close_load s = C.replied (wanting_one s.opened (close_answer s.texts))
-says C.drop_load s = C.replied (wanting_one s.opened (λ o. Done))
+says C.drop_load s = C.replied (wanting_one s.opened (λ o. Ok tt))
 says (C.remove label) s = C.replied (wanting_none s.opened (remove_answer label s.texts))
-says C.clear s = C.replied (wanting_none s.opened Done)
+says C.clear s = C.replied (wanting_none s.opened (Ok tt))
 says (C.fetch name buffer) s =
     C.fetched (fetched (found_in name (length buffer) s.texts)) (filled (found_in name (length buffer) s.texts) (doubles name s.texts) buffer)
 says (C.fetch_string name place buffer) s =
@@ -142,11 +140,11 @@ module _ (m : List ℕ) (e : sound m ≡ true) where
   asked-says C.make_empty = rw (sound-sized m e)
   asked-says (C.load label bytes) = rw e (none_said (load_answer label bytes (decode m)))
   asked-says (C.open_load label) = rw e (none_said (open_answer label (decode m)))
-  asked-says (C.feed_part part) = rw e (one-said (λ o. Done))
+  asked-says (C.feed_part part) = rw e (one-said (λ o. Ok tt))
   asked-says C.close_load = rw e (one-said (close_answer (decode m)))
-  asked-says C.drop_load = rw e (one-said (λ o. Done))
+  asked-says C.drop_load = rw e (one-said (λ o. Ok tt))
   asked-says (C.remove label) = rw e (none_said (remove_answer label (decode m)))
-  asked-says C.clear = rw e (none_said Done)
+  asked-says C.clear = rw e (none_said (Ok tt))
   asked-says (C.fetch name buffer) = rw e
   asked-says (C.fetch_string name place buffer) = rw e
   asked-says C.totals = rw e

@@ -4,7 +4,7 @@ use Prim.Native.Nat.{ℕ}
 use mathlib.Core.Path.{◌≡◌, refl, sym, ap, ◌∙◌, subst}
 use mathlib.Core.Bool.{Bool, true, false, true≢false}
 use mathlib.Core.List.{List, []}
-use Rattle.std.specs.Prelude.{if◌then◌else◌}
+use Rattle.std.specs.Prelude.{if◌then◌else◌, Ok}
 use Rattle.refusal.specs.declared.Refusal.TheVariants.{LabelHeld, TextOpen}
 use Rattle.layout.specs.State.{Pool}
 use Rattle.layout.specs.Limits.{room}
@@ -12,13 +12,11 @@ use Rattle.layout.specs.Memory.{decode, put, opens, open_label}
 use Rattle.layout.specs.Damage.{sound}
 use Rattle.layout.proofs.Legal.{fits-of}
 use Rattle.layout.proofs.Holds.{put-closed}
-use Rattle.pool.specs.Replies.{done, refusing}
+use Rattle.pool.specs.Replies.{Reply, done, refusing}
 use Rattle.pool.specs.Empty.{empty_reply, clear_reply}
 use Rattle.pool.specs.Held.{held}
 use Rattle.loading.specs.Load.{text_of, with, load_answer, load_reply, load_memory}
 use Rattle.pool.specs.Remove.{without, remove_answer, remove_reply, remove_memory}
-use Rattle.pool.specs.declared.reply.Reply.{Reply}
-use Rattle.pool.specs.declared.reply.Reply.TheVariants.{Done}
 use Rattle.feeding.specs.Parts.{opening, fed}
 use Rattle.opening.specs.Storing.{start, complete}
 use Rattle.opening.specs.Closing.{close_answer, closed_pool}
@@ -54,7 +52,7 @@ step (C.feed_part part) s = record { texts = s.texts; opened = fed_open s.texts 
 step C.close_load s = closed (closed_texts s.texts s.opened)
 step C.drop_load s = closed s.texts
 step (C.remove label) s = if done (wanting_none s.opened (remove_answer label s.texts)) then closed (without label s.texts) else s
-step C.clear s = if done (wanting_none s.opened Done) then closed [] else s
+step C.clear s = if done (wanting_none s.opened (Ok tt)) then closed [] else s
 step (C.fetch name buffer) s = s
 step (C.fetch_string name place buffer) s = s
 step C.totals s = s
@@ -96,7 +94,7 @@ module _ (m : List ℕ) (e : sound m ≡ true) where
       → Is (I.stowed label (I.beginning m)) (record { texts = decode m; opened = ajar label (opening start) })
   open_is label o d = opened-is label o (by (held label (decode m)) d)
     where
-      by : (b : Bool) → done (if b then refusing LabelHeld else Done) ≡ true → b ≡ false
+      by : (b : Bool) → done (if b then refusing LabelHeld else Ok tt) ≡ true → b ≡ false
       by true h = absurd (true≢false (sym h))
       by false h = refl
 
@@ -172,7 +170,7 @@ module _ (m : List ℕ) (e : sound m ≡ true) where
   leaves-is C.close_load t = close-is
   leaves-is C.drop_load t = drop-is
   leaves-is (C.remove label) t = rw e (none_is (remove_answer label (decode m)) _ _ (λ o h. remove-is m e label))
-  leaves-is C.clear t = rw e (none_is Done _ _ (λ o h. emptied-is m (sound-size m e)))
+  leaves-is C.clear t = rw e (none_is (Ok tt) _ _ (λ o h. emptied-is m (sound-size m e)))
   leaves-is (C.fetch name buffer) t = unchanged m e
   leaves-is (C.fetch_string name place buffer) t = unchanged m e
   leaves-is C.totals t = unchanged m e

@@ -16,8 +16,7 @@ use Rattle.statement.specs.declared.values.Reader.{Reader}
 use Rattle.statement.specs.declared.values.Reader.TheVariants as H
 use Rattle.layout.specs.State.{Pool}
 use Rattle.layout.specs.Limits.{TEXTS}
-use Rattle.pool.specs.Replies.{reply_number, reply_line, reply_column, done, refusing}
-use Rattle.pool.specs.declared.reply.Reply.{Reply}
+use Rattle.pool.specs.Replies.{Reply, reply_number, reply_line, reply_column, done, refusing}
 use Rattle.feeding.specs.Parts.{MOST, Open}
 use Rattle.bookmark.specs.declared.mark.Standing.{Standing}
 use Rattle.bookmark.specs.declared.mark.Standing.TheVariants as S
@@ -68,8 +67,8 @@ end-told (H.List k) number long fits = record { ends = λ e. refl; lined = recor
 standing-told : (s : Pool) (x : Standing) (number long : ℕ) → Told (end_reply s x number long)
 standing-told s (S.Storing r) number long = end-told r number long (ltb (length s) TEXTS)
 standing-told s (S.Overflowed r) number long = end-told r number long false
-standing-told s (S.Faulted q line place) number long =
-    record { ends = λ e. fault-ends q; lined = record { others = λ e. true-false (sym (fault-number q) ∙ e) } }
+standing-told s (S.Faulted f) number long =
+    record { ends = λ e. fault-ends f.fault; lined = record { others = λ e. true-false (sym (fault-number f.fault) ∙ e) } }
 
 pub told : (s : Pool) (o : Open Progress) → Told (close_answer s o)
 unfolding close_answer

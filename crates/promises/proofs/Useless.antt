@@ -3,7 +3,7 @@
 use Prim.Native.Nat.{ℕ}
 use native.Mathlib.Omega.{arith}
 use mathlib.Core.Path.{◌≡◌, refl, sym, ap, ◌∙◌}
-use mathlib.Core.Bool.{true, false, true≢false}
+use mathlib.Core.Bool.{true, true≢false}
 use mathlib.Core.List.{List, [], ◌∷◌, ◌++◌, map}
 use borrow.Author.Tests.{eq-eqb, le-ltb}
 use lib.Dec.{eqb}
@@ -18,12 +18,10 @@ use Rattle.layout.specs.State.{program}
 use Rattle.layout.specs.Memory.{decode}
 use Rattle.layout.proofs.Legal.{program-one}
 use Rattle.plain.proofs.Tests.{both}
-use Rattle.pool.specs.Replies.{counts_texts, counts_statements}
+use Rattle.pool.specs.Replies.{Counted, reply_line, reply_column, counts_texts, counts_statements, refusing_at}
 use Rattle.layout.specs.Limits.{LONGEST_LOAD}
 use Rattle.loading.specs.Load.{load_answer, load_reply}
 use Rattle.pool.specs.Totals.{counts}
-use Rattle.pool.specs.declared.reply.Counts.{Counts}
-use Rattle.pool.specs.declared.reply.Reply.TheVariants.{Refused}
 use Rattle.wanted.specs.Elements.{all_there}
 use Rattle.globe.specs.declared.source.Source.TheVariants as S
 use Rattle.promises.specs.Calls.{open_load, feed_part, close_load, remove, totals, Answer, replied, counted, Build, accepted}
@@ -32,6 +30,7 @@ use Rattle.promises.specs.Histories.{in_parts, Loaded, coming, loading, Kept, no
 use Rattle.promises.specs.Demand3.{Demand3}
 use Rattle.promises.specs.Marked.{bits}
 use Rattle.promises.specs.Useless.{RefusesEveryText, RefusesEveryEpoch, ConstantOrientation, NeverTurns, ConstantRadii, RefusesEverySecond, Blends, StoresNothing, HeedsFirstOnly, OnlySaysYes, ForgetsParts, ShowsOpen, OtherTotals, InventedLine, Caught}
+use Rattle.promises.proofs.Reports.{same}
 use Rattle.promises.proofs.Keeping.{typed-append, typed-front}
 use Rattle.promises.proofs.Bringing.{after-append, still-append, still-loading, open-texts, without-parts}
 use Rattle.promises.proofs.Instances.{noughts, empty-text, holding, holding-one, second-text, a_day, earth_at_0, earth_after_a_day, sun_at_0, earth-given, later-given, sun-given, earth-ra, later-ra, sun-ra, mercury, pluto, mercury-given, pluto-given, mercury-a, pluto-a}
@@ -80,12 +79,12 @@ blends b d u =
 abbrev told : Kept → Answer
 told k = counted (counts (map text k.texts))
 
-told_same : (t t' : Counts) → counted t ≡ counted t' → t ≡ t'
+told_same : (t t' : Counted) → counted t ≡ counted t' → t ≡ t'
 told_same t t' e = cc
 
 module _ (b : Build) (d : Demand3 b) where
   -- memories that answer alike hold as many texts
-  as_many : {m m' : List ℕ} (t t' : Counts) → b.answer totals m ≡ b.answer totals m' → b.answer totals m ≡ counted t → b.answer totals m' ≡ counted t'
+  as_many : {m m' : List ℕ} (t t' : Counted) → b.answer totals m ≡ b.answer totals m' → b.answer totals m ≡ counted t → b.answer totals m' ≡ counted t'
       → counts_texts t ≡ counts_texts t'
   as_many t t' q e f = let z : t ≡ t' = cc in ap counts_texts z
 
@@ -173,11 +172,12 @@ invented-line : (b : Build) → Contracts b → InventedLine b → ⊥
 unfolding load_reply load_answer
 invented-line b d u =
     let c = d.load u.label u.bytes u.m in
-    let e : replied (Refused u.q u.told u.column) ≡ replied (load_reply u.label u.bytes u.m) = sym u.tells ∙ c.is ∙ ap replied c.contract.reply in
-    let f : load_reply u.label u.bytes u.m ≡ Refused (refusal_of u.fault) u.line (column_of u.place) =
+    let e : replied (refusing_at u.q u.told u.column) ≡ replied (load_reply u.label u.bytes u.m) = sym u.tells ∙ c.is ∙ ap replied c.contract.reply in
+    let f : load_reply u.label u.bytes u.m ≡ refusing_at (refusal_of u.fault) u.line (column_of u.place) =
     rw (u.undamaged, u.none_open, u.free, le-ltb LONGEST_LOAD (length u.bytes) u.short, u.faulty) in
-    let l : u.told ≡ u.line = cc in
-    let k : u.column ≡ column_of u.place = cc in
+    let g : refusing_at u.q u.told u.column ≡ refusing_at (refusal_of u.fault) u.line (column_of u.place) = same e ∙ f in
+    let l : u.told ≡ u.line = ap reply_line g in
+    let k : u.column ≡ column_of u.place = ap reply_column g in
     u.invented l k
 
 pub caught : Caught

@@ -1,17 +1,10 @@
 -- The calls as one: what a call answers on a memory, and the memory that it leaves. Definitions only: each line is the contract
 -- of a function of `globe`.
-use Rattle.std.specs.Prelude.{ℕ, Bool, true, false, not, ◌&&◌, List, [], ◌∷◌, eqb, Float, length}
+use Rattle.std.specs.Prelude.{ℕ, Bool, true, false, not, ◌&&◌, List, [], ◌∷◌, eqb, Float, length, Ok, Err, Result}
+use Rattle.refusal.specs.declared.Refusal.{Refusal}
 use Rattle.refusal.specs.Numbers.{SUCCESS, number_of}
 use Rattle.refusal.specs.declared.Refusal.TheVariants.{NotHeld, DamagedPool}
-use Rattle.rotation.specs.declared.matrix.Oriented.{Oriented}
-use Rattle.rotation.specs.declared.matrix.Oriented.TheVariants as O
-use Rattle.rotation.specs.declared.table.Radii.{Radii}
-use Rattle.rotation.specs.declared.table.Radii.TheVariants as A
-use Rattle.pool.specs.Replies.{reply_number, reply_line, reply_column, fetched_number, fetched_count, counts_number}
-use Rattle.pool.specs.declared.reply.Reply.{Reply}
-use Rattle.pool.specs.declared.reply.Fetched.{Fetched}
-use Rattle.pool.specs.declared.reply.Counts.{Counts}
-use Rattle.pool.specs.declared.reply.Counts.TheVariants as T
+use Rattle.pool.specs.Replies.{Counted, Fetched, Reply, reply_number, reply_line, reply_column, fetched_number, fetched_count, counts_number}
 use Rattle.pool.specs.Empty.{empty_reply, clear_reply, emptied}
 use Rattle.loading.specs.Load.{load_reply, load_memory}
 use Rattle.pool.specs.Remove.{remove_reply, remove_memory}
@@ -21,6 +14,8 @@ use Rattle.pool.specs.Totals.{totals_reply}
 use Rattle.intake.specs.Calls.{are_bytes, open_reply, open_memory, feed_reply, feed_memory, close_reply, close_memory, drop_memory}
 use Rattle.globe.specs.Orientation.{orientation_reply}
 use Rattle.globe.specs.Radii.{radii_reply}
+use Rattle.rotation.specs.declared.matrix.Orientation.{Orientation}
+use Rattle.rotation.specs.declared.table.Axes.{Axes}
 use Rattle.globe.specs.declared.source.Source.{Source}
 
 -- a call with its arguments; the two fetches come with the buffer that is lent
@@ -44,9 +39,9 @@ pub data Answer : Type 0 where
   replied : Reply → Answer
   fetched : Fetched → (buffer : List Float) → Answer
   spelled : Fetched → (buffer : List ℕ) → Answer
-  counted : Counts → Answer
-  oriented : Oriented → Answer
-  measured : Radii → Answer
+  counted : Counted → Answer
+  oriented : Result Orientation Refusal → Answer
+  measured : Result Axes Refusal → Answer
 
 unfoldable pub asked : Call → (m : List ℕ) → Answer
 asked make_empty m = replied (empty_reply m)
@@ -130,10 +125,10 @@ number (replied r) = reply_number r
 number (fetched r buffer) = fetched_number r
 number (spelled r buffer) = fetched_number r
 number (counted r) = counts_number r
-number (oriented (O.Given o)) = SUCCESS
-number (oriented (O.Refused q)) = number_of q
-number (measured (A.Given x)) = SUCCESS
-number (measured (A.Refused q)) = number_of q
+number (oriented (Ok o)) = SUCCESS
+number (oriented (Err q)) = number_of q
+number (measured (Ok x)) = SUCCESS
+number (measured (Err q)) = number_of q
 
 abbrev pub accepted : Answer → Bool
 accepted a = eqb (number a) SUCCESS
@@ -170,19 +165,19 @@ doubles (replied r) = []
 doubles (fetched r buffer) = []
 doubles (spelled r buffer) = []
 doubles (counted r) = []
-doubles (oriented (O.Given o)) =
+doubles (oriented (Ok o)) =
     o.ra ∷ o.dec ∷ o.w ∷ o.m11 ∷ o.m12 ∷ o.m13 ∷ o.m21 ∷ o.m22 ∷ o.m23 ∷ o.m31 ∷ o.m32 ∷ o.m33 ∷ []
-doubles (oriented (O.Refused q)) = []
-doubles (measured (A.Given x)) = x.a ∷ x.b ∷ x.c ∷ []
-doubles (measured (A.Refused q)) = []
+doubles (oriented (Err q)) = []
+doubles (measured (Ok x)) = x.a ∷ x.b ∷ x.c ∷ []
+doubles (measured (Err q)) = []
 
 -- the totals: texts, statements, values
 abbrev pub totalled : Answer → List ℕ
 totalled (replied r) = []
 totalled (fetched r buffer) = []
 totalled (spelled r buffer) = []
-totalled (counted (T.Held texts statements values)) = texts ∷ statements ∷ values ∷ []
-totalled (counted (T.Refused q)) = []
+totalled (counted (Ok c)) = c.texts ∷ c.statements ∷ c.values ∷ []
+totalled (counted (Err q)) = []
 totalled (oriented r) = []
 totalled (measured r) = []
 

@@ -1,5 +1,5 @@
 -- Demands 1 and 2, as the customer says them. Definitions only; the theorems are in proofs/.
-use Rattle.std.specs.Prelude.{ℕ, ◌≤◌, ◌≡◌, Bool, true, false, ◌||◌, List, [], ◌∷◌, ◌++◌, ◌↔◌, ◌⊎◌, Float, length, drop, if◌then◌else◌}
+use Rattle.std.specs.Prelude.{ℕ, ◌≤◌, ◌≡◌, Bool, true, false, ◌||◌, List, [], ◌∷◌, ◌++◌, ◌↔◌, ◌⊎◌, Float, length, drop, if◌then◌else◌, Some, Ok}
 use Rattle.std.specs.Float.Ieee.Scale.{finite}
 use Rattle.plain.specs.Bytes.{within}
 use Rattle.refusal.specs.Numbers.{number_of}
@@ -13,15 +13,9 @@ use Rattle.rotation.specs.Builtin.{neptunes, row_evaluated}
 use Rattle.rotation.specs.Range.{InRange}
 use Rattle.rotation.specs.Finite.{Finite}
 use Rattle.rotation.specs.Overflow.{NeverOverflows}
-use Rattle.rotation.specs.declared.code.System.TheVariants.{Of}
 use Rattle.rotation.specs.declared.elements.Elements.{Elements}
 use Rattle.rotation.specs.declared.matrix.Orientation.{Orientation}
-use Rattle.rotation.specs.declared.matrix.Oriented.TheVariants as O
 use Rattle.rotation.specs.declared.table.Axes.{Axes}
-use Rattle.rotation.specs.declared.table.Radii.{Radii}
-use Rattle.rotation.specs.declared.table.Radii.TheVariants as A
-use Rattle.rotation.specs.declared.table.Row.TheVariants.{Held}
-use Rattle.rotation.specs.declared.table.Size.TheVariants.{Known}
 use Rattle.text.specs.Columns.{column_of, Pointed}
 use Rattle.value.specs.Faults.{refusal_of}
 use Rattle.statement.specs.Statements.{Event}
@@ -31,6 +25,7 @@ use Rattle.layout.specs.State.{Pool}
 use Rattle.layout.specs.Limits.{room, LONGEST_LOAD}
 use Rattle.layout.specs.Memory.{decode, opens}
 use Rattle.layout.specs.Damage.{sound}
+use Rattle.pool.specs.Replies.{Fetched, refusing_at}
 use Rattle.pool.specs.Empty.{Empties, Clears}
 use Rattle.pool.specs.Held.{held}
 use Rattle.loading.specs.Load.{text_of, with, Loads}
@@ -44,11 +39,8 @@ use Rattle.variables.specs.Spelled.{string_of}
 use Rattle.pool.specs.Fetch.{Fetches}
 use Rattle.pool.specs.FetchString.{FetchesString}
 use Rattle.pool.specs.Totals.{Totals}
-use Rattle.pool.specs.declared.reply.Reply.TheVariants.{Refused}
-use Rattle.pool.specs.declared.reply.Fetched.{Fetched}
 use Rattle.wanted.specs.Elements.{there, numeric, none_there, complete, all_numeric, well_counted, elements, angles, list}
 use Rattle.degree.specs.Degree as G
-use Rattle.degree.specs.declared.Degree.TheVariants as D
 use Rattle.globe.specs.Orientation.{Orients}
 use Rattle.globe.specs.Radii.{positive, all_positive, Measures}
 use Rattle.globe.specs.declared.source.Source.{Source}
@@ -139,11 +131,11 @@ pub record Reports (b : Build) : Type 0 where
   pub others :
       (c : Call) (m : List ℕ) → points (number (b.answer c m)) ≡ false → (line (b.answer c m) ≡ 0) × (column (b.answer c m) ≡ 0)
   pub faults :
-      (label : ℕ) (bytes m : List ℕ) (q : Refusal) (n k : ℕ) → b.answer (load label bytes) m ≡ C.replied (Refused q n k)
+      (label : ℕ) (bytes m : List ℕ) (q : Refusal) (n k : ℕ) → b.answer (load label bytes) m ≡ C.replied (refusing_at q n k)
       → points (number_of q) ≡ true → Faulty bytes q n k
   pub faults_of_parts :
       (label : ℕ) (parts : List (List ℕ)) (m : List ℕ) (q : Refusal) (n k : ℕ) → are_bytes (joined parts) ≡ true → accepted (b.answer (C.open_load label) m) ≡ true
-      → b.answer C.close_load (fed_under b label parts m) ≡ C.replied (Refused q n k) → points (number_of q) ≡ true → Faulty (joined parts) q n k
+      → b.answer C.close_load (fed_under b label parts m) ≡ C.replied (refusing_at q n k) → points (number_of q) ≡ true → Faulty (joined parts) q n k
   pub no_values :
       (c : Call) (m : List ℕ) → accepted (b.answer c m) ≡ false
       → (count (b.answer c m) ≡ 0) × (doubles (b.answer c m) ≡ []) × (totalled (b.answer c m) ≡ [])
@@ -191,11 +183,11 @@ pub record Admissible (longest label : ℕ) (bytes m : List ℕ) : Type 0 where
 pub record HasElements (s : Pool) (n : ℕ) (epoch : Float) (o : Orientation) : Type 0 where
   pub reach : in_reach epoch ≡ true
   pub system : ℕ
-  pub legal : system_of n ≡ Of system
+  pub legal : system_of n ≡ Some system
   pub some : none_there s n ≡ false
   pub whole : complete s n system ≡ true
   pub degree : ℕ
-  pub announced : G.degree s n system ≡ D.Of degree
+  pub announced : G.degree s n system ≡ Some degree
   pub kinds : all_numeric s n system ≡ true
   pub counts : well_counted s n system degree ≡ true
   pub evaluation :
@@ -205,15 +197,15 @@ pub record HasElements (s : Pool) (n : ℕ) (epoch : Float) (o : Orientation) : 
 pub record HasRow (n : ℕ) (epoch : Float) (o : Orientation) : Type 0 where
   pub reach : in_reach epoch ≡ true
   pub system : ℕ
-  pub legal : system_of n ≡ Of system
+  pub legal : system_of n ≡ Some system
   pub row : Elements
-  pub listed : row_of n ≡ Held row
+  pub listed : row_of n ≡ Some row
   pub evaluation : o ≡ row_evaluated n row epoch
 
 -- "Radii are the source's three values", and from a pool "must each be greater than 0 as doubles": of the texts of a pool
 pub record HasRadii (s : Pool) (n : ℕ) (x : Axes) : Type 0 where
   pub system : ℕ
-  pub legal : system_of n ≡ Of system
+  pub legal : system_of n ≡ Some system
   pub some : there s n W.Radii ≡ true
   pub kinds : numeric s n W.Radii ≡ true
   pub three : list s n W.Radii ≡ x.a ∷ x.b ∷ x.c ∷ []
@@ -228,32 +220,32 @@ pub record Demand2 (b : Build) : Type 0 where
       → (accepted (b.answer C.close_load (fed_under b label parts m)) ≡ true) ↔ Admissible MOST label (joined parts) m
   pub pool_orientations :
       (m : List ℕ) (n : ℕ) (epoch : Float) (o : Orientation)
-      → (b.answer (orientation S.Pool n epoch) m ≡ oriented (O.Given o)) ↔ ((sound m ≡ true) × HasElements (decode m) n epoch o)
+      → (b.answer (orientation S.Pool n epoch) m ≡ oriented (Ok o)) ↔ ((sound m ≡ true) × HasElements (decode m) n epoch o)
   pub table_orientations :
       (m : List ℕ) (n : ℕ) (epoch : Float) (o : Orientation)
-      → (b.answer (orientation S.Builtin n epoch) m ≡ oriented (O.Given o)) ↔ HasRow n epoch o
+      → (b.answer (orientation S.Builtin n epoch) m ≡ oriented (Ok o)) ↔ HasRow n epoch o
   pub pool_radii :
       (m : List ℕ) (n : ℕ) (x : Axes)
-      → (b.answer (radii S.Pool n) m ≡ measured (A.Given x)) ↔ ((sound m ≡ true) × HasRadii (decode m) n x)
-  pub table_radii : (m : List ℕ) (n : ℕ) (x : Axes) → (b.answer (radii S.Builtin n) m ≡ measured (A.Given x)) ↔ (size_of n ≡ Known x)
+      → (b.answer (radii S.Pool n) m ≡ measured (Ok x)) ↔ ((sound m ≡ true) × HasRadii (decode m) n x)
+  pub table_radii : (m : List ℕ) (n : ℕ) (x : Axes) → (b.answer (radii S.Builtin n) m ≡ measured (Ok x)) ↔ (size_of n ≡ Some x)
   pub ranges :
       (source : Source) (m : List ℕ) (n : ℕ) (epoch : Float) (o : Orientation)
-      → b.answer (orientation source n epoch) m ≡ oriented (O.Given o) → InRange o
+      → b.answer (orientation source n epoch) m ≡ oriented (Ok o) → InRange o
 
 -- "every held value finite and of size below 2^200, so that no evaluation overflows": no number of an orientation that is given, and no
 -- result on the way to it, by the elements that the source has for the body
 pub record NoOverflow (b : Build) : Type 0 where
   pub answers :
       (source : Source) (m : List ℕ) (n : ℕ) (epoch : Float) (o : Orientation)
-      → b.answer (orientation source n epoch) m ≡ oriented (O.Given o) → Finite o
+      → b.answer (orientation source n epoch) m ≡ oriented (Ok o) → Finite o
   pub pools :
       (m : List ℕ) (n system degree : ℕ) (epoch : Float) (o : Orientation)
-      → b.answer (orientation S.Pool n epoch) m ≡ oriented (O.Given o) → system_of n ≡ Of system → G.degree (decode m) n system ≡ D.Of degree
+      → b.answer (orientation S.Pool n epoch) m ≡ oriented (Ok o) → system_of n ≡ Some system → G.degree (decode m) n system ≡ Some degree
       → NeverOverflows (elements (decode m) n) epoch degree (angles (decode m) n system)
       (list (decode m) n W.NutPrecRa) (list (decode m) n W.NutPrecDec) (list (decode m) n W.NutPrecPm)
   pub tables :
       (m : List ℕ) (n : ℕ) (epoch : Float) (o : Orientation) (row : Elements)
-      → b.answer (orientation S.Builtin n epoch) m ≡ oriented (O.Given o) → row_of n ≡ Held row
+      → b.answer (orientation S.Builtin n epoch) m ≡ oriented (Ok o) → row_of n ≡ Some row
       → NeverOverflows row epoch LINEAR (neptunes n neptune_angle) (neptunes n neptune_ra) (neptunes n neptune_dec) (neptunes n neptune_pm)
 
 -- "A zero in a text made a flat globe": every radius that is given, by either source, is greater than 0, and no infinity
@@ -264,24 +256,24 @@ pub record Above0 (radius : Float) : Type 0 where
 
 abbrev pub RadiiAbove0 : Build → Type 0
 RadiiAbove0 b =
-    (source : Source) (m : List ℕ) (n : ℕ) (x : Axes) → b.answer (radii source n) m ≡ measured (A.Given x) → Above0 x.a × Above0 x.b × Above0 x.c
+    (source : Source) (m : List ℕ) (n : ℕ) (x : Axes) → b.answer (radii source n) m ≡ measured (Ok x) → Above0 x.a × Above0 x.b × Above0 x.c
 
 -- "the two are never blended, since a pole of one report with a meridian of another is an orientation nobody published."
 
 -- all that is wanted of a body is there in the texts of a pool, and the orientation is that of these elements
 pub record OfPool (s : Pool) (n : ℕ) (epoch : Float) (o : Orientation) : Type 0 where
   pub system : ℕ
-  pub legal : system_of n ≡ Of system
+  pub legal : system_of n ≡ Some system
   pub whole : complete s n system ≡ true
   pub degree : ℕ
-  pub announced : G.degree s n system ≡ D.Of degree
+  pub announced : G.degree s n system ≡ Some degree
   pub evaluation :
       o ≡ evaluated (elements s n) epoch degree (angles s n system) (list s n W.NutPrecRa) (list s n W.NutPrecDec) (list s n W.NutPrecPm)
 
 -- the table has a row for it, and the orientation is that of the row
 pub record OfTable (n : ℕ) (epoch : Float) (o : Orientation) : Type 0 where
   pub row : Elements
-  pub listed : row_of n ≡ Held row
+  pub listed : row_of n ≡ Some row
   pub evaluation : o ≡ row_evaluated n row epoch
 
 -- the call is a query, or no text is open in either memory
@@ -292,14 +284,14 @@ AlikeOpen c m m' = (query c ≡ true) ⊎ ((opens m ≡ false) × (opens m' ≡ 
 pub record NeverBlended (b : Build) : Type 0 where
   pub pool_orientations :
       (m : List ℕ) (n : ℕ) (epoch : Float) (o : Orientation)
-      → b.answer (orientation S.Pool n epoch) m ≡ oriented (O.Given o) → OfPool (decode m) n epoch o
+      → b.answer (orientation S.Pool n epoch) m ≡ oriented (Ok o) → OfPool (decode m) n epoch o
   pub table_orientations :
       (m : List ℕ) (n : ℕ) (epoch : Float) (o : Orientation)
-      → b.answer (orientation S.Builtin n epoch) m ≡ oriented (O.Given o) → OfTable n epoch o
+      → b.answer (orientation S.Builtin n epoch) m ≡ oriented (Ok o) → OfTable n epoch o
   pub pool_radii :
       (m : List ℕ) (n : ℕ) (x : Axes)
-      → b.answer (radii S.Pool n) m ≡ measured (A.Given x) → list (decode m) n W.Radii ≡ x.a ∷ x.b ∷ x.c ∷ []
-  pub table_radii : (m : List ℕ) (n : ℕ) (x : Axes) → b.answer (radii S.Builtin n) m ≡ measured (A.Given x) → size_of n ≡ Known x
+      → b.answer (radii S.Pool n) m ≡ measured (Ok x) → list (decode m) n W.Radii ≡ x.a ∷ x.b ∷ x.c ∷ []
+  pub table_radii : (m : List ℕ) (n : ℕ) (x : Axes) → b.answer (radii S.Builtin n) m ≡ measured (Ok x) → size_of n ≡ Some x
   pub tables :
       (m m' : List ℕ) (n : ℕ) (epoch : Float) → b.answer (orientation S.Builtin n epoch) m ≡ b.answer (orientation S.Builtin n epoch) m'
   pub sizes : (m m' : List ℕ) (n : ℕ) → b.answer (radii S.Builtin n) m ≡ b.answer (radii S.Builtin n) m'

@@ -1,18 +1,17 @@
 -- "Marked cases, proved about the definitions as a single table under one claim". Definitions only; the claim is proved in
 -- proofs/Marked.antt.
-use Rattle.std.specs.Prelude.{ℕ, ◌+◌, ◌≡◌, Bool, true, false, ◌&&◌, not, List, [], ◌∷◌, map, eqb, Float, length, if◌then◌else◌}
+use Rattle.std.specs.Prelude.{ℕ, ◌+◌, ◌≡◌, Bool, true, false, ◌&&◌, not, List, [], ◌∷◌, map, eqb, Float, length, if◌then◌else◌, Result, Ok, Err}
 use Rattle.std.specs.Float.{binary64}
 use Rattle.std.specs.Float.Ieee.{to_bits, of_bits, neg}
 use Rattle.plain.specs.Ascii.{ascii}
 use Rattle.plain.specs.Doubles.{printed, nought, one}
 use Rattle.plain.specs.Lists.{equal}
+use Rattle.refusal.specs.declared.Refusal.{Refusal}
 use Rattle.refusal.specs.Numbers.{number_of}
 use Rattle.angle.specs.Wrap.{wrapped}
+use Rattle.rotation.specs.declared.matrix.Orientation.{Orientation}
+use Rattle.rotation.specs.declared.table.Axes.{Axes}
 use Rattle.rotation.specs.Builtin.{builtin_orientation, builtin_radii}
-use Rattle.rotation.specs.declared.matrix.Oriented.{Oriented}
-use Rattle.rotation.specs.declared.matrix.Oriented.TheVariants.{Given, Refused}
-use Rattle.rotation.specs.declared.table.Radii.{Radii}
-use Rattle.rotation.specs.declared.table.Radii.TheVariants as A
 use Rattle.decimal.specs.Class.{reading}
 use Rattle.decimal.specs.declared.Reading.{Reading}
 use Rattle.decimal.specs.declared.Reading.TheVariants as D
@@ -71,23 +70,23 @@ x_is xs s = all_numbers (variable (ascii "X") s) && equal (map bits (doubles (as
 abbrev pub two : Float
 two = printed 2 0
 
-abbrev pub given : Oriented → Bool
-given (Given o) = true
-given (Refused q) = false
+abbrev pub given : Result Orientation Refusal → Bool
+given (Ok o) = true
+given (Err q) = false
 
-abbrev pub refused_with : ℕ → Oriented → Bool
-refused_with n (Given o) = false
-refused_with n (Refused q) = eqb n (number_of q)
+abbrev pub refused_with : ℕ → Result Orientation Refusal → Bool
+refused_with n (Ok o) = false
+refused_with n (Err q) = eqb n (number_of q)
 
-abbrev pub radii_refused_with : ℕ → Radii → Bool
-radii_refused_with n (A.Given x) = false
-radii_refused_with n (A.Refused q) = eqb n (number_of q)
+abbrev pub radii_refused_with : ℕ → Result Axes Refusal → Bool
+radii_refused_with n (Ok x) = false
+radii_refused_with n (Err q) = eqb n (number_of q)
 
 -- pole, meridian and the matrix's third row
-abbrev pub shows : (ra dec w m31 m32 m33 : Float) → Oriented → Bool
-shows ra dec w m31 m32 m33 (Given o) =
+abbrev pub shows : (ra dec w m31 m32 m33 : Float) → Result Orientation Refusal → Bool
+shows ra dec w m31 m32 m33 (Ok o) =
     same o.ra ra && same o.dec dec && same o.w w && same o.m31 m31 && same o.m32 m32 && same o.m33 m33
-shows ra dec w m31 m32 m33 (Refused q) = false
+shows ra dec w m31 m32 m33 (Err q) = false
 
 -- ---- the table
 

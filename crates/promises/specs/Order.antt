@@ -2,16 +2,13 @@
 -- 13, 14; 9, 10, 11, 12. Fifteen is not checked where the built-in source is named." "16 MIXED KIND .. stands just before 12"; "both fetches
 -- ask 13, 16, 14 in turn"; "22 TEXT OPEN .. stands after 15 (opening then gives 1); feeding, closing or dropping with none open is 8"; "23 BAD DEGREE .. stands after 11 and before 16"; "24 BAD RADIUS, for radii only, stands after 12". Each refusal is
 -- given where its condition holds and none does that is asked before it. Definitions only.
-use Rattle.std.specs.Prelude.{ℕ, ◌≤◌, ◌<◌, ◌≡◌, Bool, true, false, List, eqb, Float, length}
+use Rattle.std.specs.Prelude.{ℕ, ◌≤◌, ◌<◌, ◌≡◌, Bool, true, false, List, eqb, Float, length, Some, None}
 use Rattle.refusal.specs.Numbers.{number_of}
 use Rattle.refusal.specs.declared.Refusal.{Refusal}
 use Rattle.refusal.specs.declared.Refusal.TheVariants as Q
 use Rattle.rotation.specs.Epochs.{in_reach}
 use Rattle.rotation.specs.Codes.{system_of}
 use Rattle.rotation.specs.Table.{row_of, size_of}
-use Rattle.rotation.specs.declared.code.System.TheVariants.{Of, Nowhere}
-use Rattle.rotation.specs.declared.table.Row.TheVariants.{NoRow}
-use Rattle.rotation.specs.declared.table.Size.TheVariants.{NoSize}
 use Rattle.value.specs.Faults.{refusal_of}
 use Rattle.statement.specs.Statements.{Event}
 use Rattle.text.specs.Text.{fine, refused, read_text}
@@ -29,7 +26,6 @@ use Rattle.intake.specs.Calls.{are_bytes}
 use Rattle.wanted.specs.Elements.{there, numeric, none_there, complete, all_numeric, well_counted, list}
 use Rattle.wanted.specs.declared.name.Wanted.TheVariants as W
 use Rattle.degree.specs.Degree.{degree}
-use Rattle.degree.specs.declared.Degree.TheVariants as D
 use Rattle.globe.specs.Radii.{axes, all_positive}
 use Rattle.globe.specs.declared.source.Source.TheVariants as S
 use Rattle.promises.specs.Calls as C
@@ -131,34 +127,34 @@ pub record StringOrder (b : Build) (name : List ℕ) (place : ℕ) (buffer m : L
 
 pub record OrientationOrder (b : Build) (n : ℕ) (epoch : Float) (m : List ℕ) : Type 0 where
   pub epochs : in_reach epoch ≡ false → Refuses b (C.orientation S.Pool n epoch) m Q.Epoch
-  pub no_code : in_reach epoch ≡ true → system_of n ≡ Nowhere → Refuses b (C.orientation S.Pool n epoch) m Q.UnknownBody
+  pub no_code : in_reach epoch ≡ true → system_of n ≡ None → Refuses b (C.orientation S.Pool n epoch) m Q.UnknownBody
   pub no_body :
-      (k : ℕ) → in_reach epoch ≡ true → system_of n ≡ Of k → none_there (decode m) n ≡ true → Refuses b (C.orientation S.Pool n epoch) m Q.UnknownBody
+      (k : ℕ) → in_reach epoch ≡ true → system_of n ≡ Some k → none_there (decode m) n ≡ true → Refuses b (C.orientation S.Pool n epoch) m Q.UnknownBody
   pub incomplete :
-      (k : ℕ) → in_reach epoch ≡ true → system_of n ≡ Of k → none_there (decode m) n ≡ false → complete (decode m) n k ≡ false
+      (k : ℕ) → in_reach epoch ≡ true → system_of n ≡ Some k → none_there (decode m) n ≡ false → complete (decode m) n k ≡ false
       → Refuses b (C.orientation S.Pool n epoch) m Q.Incomplete
   pub bad_degree :
-      (k : ℕ) → in_reach epoch ≡ true → system_of n ≡ Of k → none_there (decode m) n ≡ false → complete (decode m) n k ≡ true
-      → degree (decode m) n k ≡ D.Bad → Refuses b (C.orientation S.Pool n epoch) m Q.BadDegree
+      (k : ℕ) → in_reach epoch ≡ true → system_of n ≡ Some k → none_there (decode m) n ≡ false → complete (decode m) n k ≡ true
+      → degree (decode m) n k ≡ None → Refuses b (C.orientation S.Pool n epoch) m Q.BadDegree
   pub mixed_kind :
-      (k d : ℕ) → in_reach epoch ≡ true → system_of n ≡ Of k → none_there (decode m) n ≡ false → complete (decode m) n k ≡ true
-      → degree (decode m) n k ≡ D.Of d → all_numeric (decode m) n k ≡ false → Refuses b (C.orientation S.Pool n epoch) m Q.MixedKind
+      (k d : ℕ) → in_reach epoch ≡ true → system_of n ≡ Some k → none_there (decode m) n ≡ false → complete (decode m) n k ≡ true
+      → degree (decode m) n k ≡ Some d → all_numeric (decode m) n k ≡ false → Refuses b (C.orientation S.Pool n epoch) m Q.MixedKind
   pub wrong_count :
-      (k d : ℕ) → in_reach epoch ≡ true → system_of n ≡ Of k → none_there (decode m) n ≡ false
-      → complete (decode m) n k ≡ true → degree (decode m) n k ≡ D.Of d → all_numeric (decode m) n k ≡ true → well_counted (decode m) n k d ≡ false
+      (k d : ℕ) → in_reach epoch ≡ true → system_of n ≡ Some k → none_there (decode m) n ≡ false
+      → complete (decode m) n k ≡ true → degree (decode m) n k ≡ Some d → all_numeric (decode m) n k ≡ true → well_counted (decode m) n k d ≡ false
       → Refuses b (C.orientation S.Pool n epoch) m Q.WrongCount
 
 pub record RadiiOrder (b : Build) (n : ℕ) (m : List ℕ) : Type 0 where
-  pub no_code : system_of n ≡ Nowhere → Refuses b (C.radii S.Pool n) m Q.UnknownBody
-  pub no_body : (k : ℕ) → system_of n ≡ Of k → there (decode m) n W.Radii ≡ false → Refuses b (C.radii S.Pool n) m Q.UnknownBody
+  pub no_code : system_of n ≡ None → Refuses b (C.radii S.Pool n) m Q.UnknownBody
+  pub no_body : (k : ℕ) → system_of n ≡ Some k → there (decode m) n W.Radii ≡ false → Refuses b (C.radii S.Pool n) m Q.UnknownBody
   pub mixed_kind :
-      (k : ℕ) → system_of n ≡ Of k → there (decode m) n W.Radii ≡ true → numeric (decode m) n W.Radii ≡ false
+      (k : ℕ) → system_of n ≡ Some k → there (decode m) n W.Radii ≡ true → numeric (decode m) n W.Radii ≡ false
       → Refuses b (C.radii S.Pool n) m Q.MixedKind
   pub wrong_count :
-      (k : ℕ) → system_of n ≡ Of k → there (decode m) n W.Radii ≡ true → numeric (decode m) n W.Radii ≡ true → eqb (length (list (decode m) n W.Radii)) 3 ≡ false
+      (k : ℕ) → system_of n ≡ Some k → there (decode m) n W.Radii ≡ true → numeric (decode m) n W.Radii ≡ true → eqb (length (list (decode m) n W.Radii)) 3 ≡ false
       → Refuses b (C.radii S.Pool n) m Q.WrongCount
   pub bad_radius :
-      (k : ℕ) → system_of n ≡ Of k → there (decode m) n W.Radii ≡ true → numeric (decode m) n W.Radii ≡ true → eqb (length (list (decode m) n W.Radii)) 3 ≡ true
+      (k : ℕ) → system_of n ≡ Some k → there (decode m) n W.Radii ≡ true → numeric (decode m) n W.Radii ≡ true → eqb (length (list (decode m) n W.Radii)) 3 ≡ true
       → all_positive (axes (list (decode m) n W.Radii)) ≡ false → Refuses b (C.radii S.Pool n) m Q.BadRadius
 
 -- ---- the claim
@@ -182,5 +178,5 @@ pub record InOrder (b : Build) : Type 0 where
   pub radii : (n : ℕ) (m : List ℕ) → sound m ≡ true → RadiiOrder b n m
   pub table_epochs : (n : ℕ) (epoch : Float) (m : List ℕ) → in_reach epoch ≡ false → Refuses b (C.orientation S.Builtin n epoch) m Q.Epoch
   pub table_rows :
-      (n : ℕ) (epoch : Float) (m : List ℕ) → in_reach epoch ≡ true → row_of n ≡ NoRow → Refuses b (C.orientation S.Builtin n epoch) m Q.UnknownBody
-  pub table_sizes : (n : ℕ) (m : List ℕ) → size_of n ≡ NoSize → Refuses b (C.radii S.Builtin n) m Q.UnknownBody
+      (n : ℕ) (epoch : Float) (m : List ℕ) → in_reach epoch ≡ true → row_of n ≡ None → Refuses b (C.orientation S.Builtin n epoch) m Q.UnknownBody
+  pub table_sizes : (n : ℕ) (m : List ℕ) → size_of n ≡ None → Refuses b (C.radii S.Builtin n) m Q.UnknownBody

@@ -1,20 +1,18 @@
 -- "Every text that was refused 5 is refused with exactly one of the new numbers at the same line, and no other text is": the answer of a load
 -- beside the one that the same text had before, when five kinds of fault had one number. Definitions only.
-use Rattle.std.specs.Prelude.{ℕ, ◌≡◌, true, List, ◌↔◌}
+use Rattle.std.specs.Prelude.{ℕ, ◌≡◌, true, List, ◌↔◌, Ok, Err}
 use Rattle.plain.specs.Bytes.{within}
 use Rattle.refusal.specs.Numbers.{SUCCESS, number_of}
 use Rattle.refusal.specs.Before.{SYNTAX, number_before}
 use Rattle.refusal.specs.declared.Refusal.{Refusal}
 use Rattle.loading.specs.Load.{load_reply}
-use Rattle.pool.specs.Replies.{reply_line}
-use Rattle.pool.specs.declared.reply.Reply.{Reply}
-use Rattle.pool.specs.declared.reply.Reply.TheVariants.{Done, Refused}
+use Rattle.pool.specs.Replies.{Reply, reply_line}
 use Rattle.promises.specs.Calls.{Answer, load, Build, number, line}
 
 -- a reply's number as it was told before
 abbrev pub reply_before : Reply → ℕ
-reply_before Done = SUCCESS
-reply_before (Refused q line column) = number_before q
+reply_before (Ok u) = SUCCESS
+reply_before (Err e) = number_before e.refusal
 
 -- an answer of a load, beside the number and the line that were told before
 pub record Renumbers (before line_before : ℕ) (a : Answer) : Type 0 where

@@ -1,16 +1,13 @@
 -- "Useless builds that have to be caught": each kind as a definition, and the claim that none meets the demand named for it. Definitions
 -- only.
-use Rattle.std.specs.Prelude.{ℕ, ◌≤◌, ◌<◌, ◌≡◌, Bool, true, false, List, [], ◌++◌, Float, length, if◌then◌else◌}
+use Rattle.std.specs.Prelude.{ℕ, ◌≤◌, ◌<◌, ◌≡◌, Bool, true, false, List, [], ◌++◌, Float, length, if◌then◌else◌, Some, Ok}
 use Rattle.refusal.specs.declared.Refusal.{Refusal}
 use Rattle.rotation.specs.Evaluation.{evaluated}
 use Rattle.rotation.specs.Table.{row_of}
 use Rattle.rotation.specs.declared.elements.Polynomial.{Polynomial}
 use Rattle.rotation.specs.declared.elements.Elements.{Elements}
 use Rattle.rotation.specs.declared.matrix.Orientation.{Orientation}
-use Rattle.rotation.specs.declared.matrix.Oriented.TheVariants as O
 use Rattle.rotation.specs.declared.table.Axes.{Axes}
-use Rattle.rotation.specs.declared.table.Radii.TheVariants as A
-use Rattle.rotation.specs.declared.table.Row.TheVariants.{Held}
 use Rattle.text.specs.Columns.{column_of}
 use Rattle.text.specs.Text.{refused, read_text}
 use Rattle.value.specs.declared.faults.Fault.{Fault}
@@ -19,11 +16,10 @@ use Rattle.layout.specs.Memory.{decode, opens}
 use Rattle.feeding.specs.Parts.{joined}
 use Rattle.layout.specs.Damage.{sound}
 use Rattle.layout.specs.Limits.{LONGEST_LOAD}
+use Rattle.pool.specs.Replies.{Counted, refusing_at}
 use Rattle.pool.specs.Held.{held}
 use Rattle.loading.specs.Load.{text_of}
 use Rattle.pool.specs.Totals.{counts}
-use Rattle.pool.specs.declared.reply.Counts.{Counts}
-use Rattle.pool.specs.declared.reply.Reply.TheVariants.{Refused}
 use Rattle.wanted.specs.Elements.{there, all_there, elements, angles, list}
 use Rattle.wanted.specs.declared.name.Wanted.TheVariants as W
 use Rattle.globe.specs.declared.source.Source.{Source}
@@ -47,17 +43,17 @@ pub record ConstantOrientation (b : Build) : Type 0 where
   pub single : Orientation
   pub always :
       (source : Source) (n : ℕ) (epoch : Float) (m : List ℕ) (o : Orientation)
-      → b.answer (orientation source n epoch) m ≡ oriented (O.Given o) → o ≡ single
+      → b.answer (orientation source n epoch) m ≡ oriented (Ok o) → o ≡ single
 
 abbrev pub NeverTurns : Build → Type 0
 NeverTurns b =
     (source : Source) (n : ℕ) (epoch epoch' : Float) (m : List ℕ) (o o' : Orientation)
-    → b.answer (orientation source n epoch) m ≡ oriented (O.Given o) → b.answer (orientation source n epoch') m ≡ oriented (O.Given o') → o ≡ o'
+    → b.answer (orientation source n epoch) m ≡ oriented (Ok o) → b.answer (orientation source n epoch') m ≡ oriented (Ok o') → o ≡ o'
 
 -- "one with constant radii"
 pub record ConstantRadii (b : Build) : Type 0 where
   pub single : Axes
-  pub always : (source : Source) (n : ℕ) (m : List ℕ) (x : Axes) → b.answer (radii source n) m ≡ measured (A.Given x) → x ≡ single
+  pub always : (source : Source) (n : ℕ) (m : List ℕ) (x : Axes) → b.answer (radii source n) m ≡ measured (Ok x) → x ≡ single
 
 -- one that refuses every load where a text is held
 abbrev pub RefusesEverySecond : Build → Type 0
@@ -84,14 +80,14 @@ pub record Blends (b : Build) : Type 0 where
   pub epoch : Float
   pub lacking : all_there (decode m) n ≡ false
   pub row : Elements
-  pub listed : row_of n ≡ Held row
+  pub listed : row_of n ≡ Some row
   pub system : ℕ
   pub degree : ℕ
   pub given : Orientation
   pub evaluation :
       given ≡ evaluated (blended (decode m) n row) epoch degree (angles (decode m) n system)
       (list (decode m) n W.NutPrecRa) (list (decode m) n W.NutPrecDec) (list (decode m) n W.NutPrecPm)
-  pub gives : b.answer (orientation S.Pool n epoch) m ≡ oriented (O.Given given)
+  pub gives : b.answer (orientation S.Pool n epoch) m ≡ oriented (Ok given)
 
 -- ---- demand 3
 
@@ -156,7 +152,7 @@ pub record OtherTotals (b : Build) : Type 0 where
   pub empty : Fresh b m
   pub history : List Call
   pub typed : Typed history
-  pub told : Counts
+  pub told : Counted
   pub tells : b.answer totals (after b history m) ≡ counted told
   pub others : told ≡ counts (texts b history m) → ⊥
 
@@ -178,7 +174,7 @@ pub record InventedLine (b : Build) : Type 0 where
   pub q : Refusal
   pub told : ℕ
   pub column : ℕ
-  pub tells : b.answer (load label bytes) m ≡ replied (Refused q told column)
+  pub tells : b.answer (load label bytes) m ≡ replied (refusing_at q told column)
   pub invented : told ≡ line → column ≡ column_of place → ⊥
 
 -- ---- the claim
