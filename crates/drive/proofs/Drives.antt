@@ -8,22 +8,20 @@ use mathlib.Core.List.{List}
 use borrow.Author.Tests.{leb-true, leb-false}
 use lib.Dec.{leb}
 use lib.Ieee.{Float}
-use Rattle.rotation.specs.declared.matrix.Oriented.{Oriented}
-use Rattle.rotation.specs.declared.matrix.Oriented.TheVariants as O
+use Rattle.std.specs.Prelude.{Result, Ok, Err}
 use Rattle.globe.specs.Orientation.{orientation_reply}
 use Rattle.globe.specs.declared.source.Source.{Source}
 use Rattle.promises.proofs.Given.{in-range}
+use Rattle.drive.specs.declared.answer.Motion.{Motion}
 use Rattle.drive.specs.Ring.{ringed}
-use Rattle.drive.specs.Calls.{Places, Steps}
+use Rattle.drive.specs.Calls.{Places, moving, Steps}
 use Rattle.drive.specs.Claims.{OnePosition, OneMove, OneAnswer, InRing, InOrder, Drives}
-use Rattle.drive.specs.declared.answer.Placed.{Placed}
-use Rattle.drive.specs.declared.answer.Placed.TheVariants as P
-use Rattle.drive.specs.declared.answer.Moved.{Moved}
-use Rattle.drive.specs.declared.answer.Moved.TheVariants as M
 use Rattle.drive.proofs.Positions.{bounds, position-unique, position-exists}
 use Rattle.drive.proofs.Moves.{move-unique, move-exists}
 use Rattle.drive.proofs.Halves.{move-in-half, stays}
 use Rattle.drive.proofs.Answers.{place-no-ring, place-refused, place_at, place-below, step-no-ring, step-no-position, step-refused, step-to, placed-there, moved-there}
+use Rattle.rotation.specs.declared.matrix.Orientation.{Orientation}
+use Rattle.refusal.specs.declared.Refusal.{Refusal}
 use Rattle.drive.proofs.Once.{places-once, steps-once}
 
 pub one-position : OnePosition
@@ -45,30 +43,30 @@ one-move ring p t P T =
 
 -- ---- each call has one answer
 module _ (source : Source) (m : List ℕ) (code : ℕ) (epoch : Float) (ring : ℕ) where
-  place-exists : (r : Placed) × Places source m code epoch ring r
+  place-exists : (r : Result ℕ Refusal) × Places source m code epoch ring r
   place-exists = by (ringed ring) refl
     where
-      from : ringed ring ≡ true → (x : Oriented) → orientation_reply source m code epoch ≡ x → (r : Placed) × Places source m code epoch ring r
-      from e (O.Refused q) h = (P.Refused q, place-refused source m code epoch ring e q h)
-      from e (O.Given o) h =
+      from : ringed ring ≡ true → (x : Result Orientation Refusal) → orientation_reply source m code epoch ≡ x → (r : Result ℕ Refusal) × Places source m code epoch ring r
+      from e (Err q) h = (Err q, place-refused source m code epoch ring e q h)
+      from e (Ok o) h =
           let p = one-position source m code epoch ring o e h in
-          (P.At p.one, place_at source m code epoch ring e o p.one h p.is)
+          (Ok p.one, place_at source m code epoch ring e o p.one h p.is)
 
-      by : (b : Bool) → ringed ring ≡ b → (r : Placed) × Places source m code epoch ring r
+      by : (b : Bool) → ringed ring ≡ b → (r : Result ℕ Refusal) × Places source m code epoch ring r
       by false e = (_, place-no-ring source m code epoch ring e)
       by true e = from e (orientation_reply source m code epoch) refl
 
   module _ (present : ℕ) where
-    onward : ringed ring ≡ true → present < ring → (r : Placed) → Places source m code epoch ring r → (s : Moved) × Steps source m code epoch ring present s
-    onward e l (P.Refused q) p = (M.Refused q, step-refused source m code epoch ring present e l q p)
-    onward e l (P.At n) p =
+    onward : ringed ring ≡ true → present < ring → (r : Result ℕ Refusal) → Places source m code epoch ring r → (s : Result Motion Refusal) × Steps source m code epoch ring present s
+    onward e l (Err q) p = (Err q, step-refused source m code epoch ring present e l q p)
+    onward e l (Ok n) p =
         let k = move-exists ring present n l (place-below source m code epoch ring e n p) in
-        (M.To n k.0, step-to source m code epoch ring present e l n k.0 p k.1)
+        (moving n k.0, step-to source m code epoch ring present e l n k.0 p k.1)
 
-    step-exists : (s : Moved) × Steps source m code epoch ring present s
+    step-exists : (s : Result Motion Refusal) × Steps source m code epoch ring present s
     step-exists = by (ringed ring) (leb ring present) refl refl
       where
-        by : (b c : Bool) → ringed ring ≡ b → leb ring present ≡ c → (s : Moved) × Steps source m code epoch ring present s
+        by : (b c : Bool) → ringed ring ≡ b → leb ring present ≡ c → (s : Result Motion Refusal) × Steps source m code epoch ring present s
         by false c e g = (_, step-no-ring source m code epoch ring present e)
         by true true e g = (_, step-no-position source m code epoch ring present e (leb-true ring present g))
         by true false e g = onward e (leb-false ring present g) place-exists.0 place-exists.1

@@ -1,16 +1,8 @@
-// What the two calls answer.
-use refusal::Refusal;
-
-// A position on the ring.
-#[derive(Clone, Copy)]
-pub enum Placed {
-    At(u32),
-    Refused(Refusal),
-}
+// What a step answers.
 
 // The position asked for, and the way there from the present one.
 #[derive(Clone, Copy)]
-pub enum Moved {
-    To(u32, i32),
-    Refused(Refusal),
+pub struct Motion {
+    pub target: u32,
+    pub way: i32,
 }

@@ -11,13 +11,10 @@ const MOST: u32 = 4096;
 pub(crate) fn is_ring(ring: u32) -> bool
     ensures { result ≡ ringed ring }
 {
-    if ring < FEWEST {
-        return false;
-    }
-    ring <= MOST
+    (FEWEST..=MOST).contains(&ring)
 }
 
-// The position of an angle of the turn. The product rises with n, so at most 12 of them are tried.
+// The position of an angle of the turn. The product rises with n, so at most 12 of them are tried: a `while` that halves what is left.
 pub(crate) fn position_on(ring: u32, w: f64) -> u32
     requires { (ringed ring ≡ true) × InTurn w }
     ensures { Position ring w result }

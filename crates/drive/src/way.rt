@@ -11,9 +11,10 @@ pub(crate) fn move_between(ring: u32, present: u32, target: u32) -> i32
     let forward = go_ahead(ring, present, target);
     let back = go_ahead(ring, target, present);
     if forward <= back {
-        return forward as i32;
+        forward as i32
+    } else {
+        -(back as i32)
     }
-    -(back as i32)
 }
 
 // How far it is forward from one position to another.

@@ -2,6 +2,7 @@
 use mathlib.Core.Path.{sym, ◌∙◌}
 use mir.Syntax.{w32}
 use mir.ValLaws.{to_z-of_z}
+use Rattle.std.proofs.lemmas.Result.{err_from_is_err_and}
 use Rattle.drive.proofs.Positions.{bounds}
 use Rattle.drive.proofs.Answers.{place-below, step-no-ring, step-no-position, step-refused, step-to}
 use Rattle.drive.proofs.calls.step.Goals as goal
@@ -14,27 +15,30 @@ returns-then-ring-present c =
     let a = c.args in
     step-no-position a.source _ a.code a.epoch a.ring a.present (sym c.is_ring.ensures ∙ c.if-not-is_ring.false) c.if-ring-present.true
 
-pub move_between-requires : goal.move_between-requires
-move_between-requires c =
+pub returns-in_err-target : goal.returns-in_err-target
+returns-in_err-target c =
+    let a = c.args in
+    let e = sym c.is_ring.ensures ∙ c.if-not-is_ring.false in
+    let p = err_from_is_err_and c.from_residual.result c.from_residual.ensures.1 in
+    rw (p.1, p.2)
+    (step-refused a.source _ a.code a.epoch a.ring a.present e c.if-ring-present.false _ (rw c.in_err-target.was at c.position.ensures))
+
+pub move_between-way-requires : goal.move_between-way-requires
+move_between-way-requires c =
     let a = c.args in
     let e = sym c.is_ring.ensures ∙ c.if-not-is_ring.false in (
       (bounds a.ring e).most,
       (
         c.if-ring-present.false,
-        place-below a.source _ a.code a.epoch a.ring e c.in-At.target (rw c.in-At.is at c.position-placed.ensures),
+        place-below a.source _ a.code a.epoch a.ring e c.in_ok-target.target (rw c.in_ok-target.was at c.position.ensures),
       ),
     )
 
-pub returns-in-At : goal.returns-in-At
-returns-in-At c =
+pub returns : goal.returns
+returns c =
     let a = c.args in
     let e = sym c.is_ring.ensures ∙ c.if-not-is_ring.false in
-    rw (to_z-of_z w32 c.move_between.result (record { sfits = c.move_between.type_inv }))
-    (step-to a.source _ a.code a.epoch a.ring a.present e c.if-ring-present.false c.in-At.target c.move_between.result
-    (rw c.in-At.is at c.position-placed.ensures) c.move_between.ensures)
-
-pub returns-in-Refused : goal.returns-in-Refused
-returns-in-Refused c =
-    let a = c.args in
-    let e = sym c.is_ring.ensures ∙ c.if-not-is_ring.false in
-    step-refused a.source _ a.code a.epoch a.ring a.present e c.if-ring-present.false c.in-Refused.refusal (rw c.in-Refused.is at c.position-placed.ensures)
+    let m = c.move_between-way in
+    rw (to_z-of_z w32 m.result (record { sfits = m.type_inv }))
+    (step-to a.source _ a.code a.epoch a.ring a.present e c.if-ring-present.false c.in_ok-target.target m.result
+    (rw c.in_ok-target.was at c.position.ensures) m.ensures)

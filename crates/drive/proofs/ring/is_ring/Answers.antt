@@ -1,9 +1,10 @@
--- `is_ring` meets its contract: its two tests are those of `ringed`. Assumes nothing.
-use borrow.Author.Tests.{le-leb, lt-leb}
+-- `is_ring` meets its contract: its range is that of `ringed`. Assumes nothing.
+use native.Mathlib.Omega.{arith}
+use Rattle.std.proofs.lemmas.Bool.Decides.{nat_tests}
 use Rattle.drive.proofs.ring.is_ring.Goals as goal
 
-pub returns-then-ring-lt-FEWEST : goal.returns-then-ring-lt-FEWEST
-returns-then-ring-lt-FEWEST c = simp (lt-leb _ _ c.if-ring-lt-FEWEST.true)
-
 pub returns : goal.returns
-returns c = simp (le-leb _ _ c.if-ring-lt-FEWEST.false)
+returns c =
+    let r = c.new.ensures in
+    let v = rw (r.start, r.end, r.exhausted) at c.contains.ensures.value in
+    grind (arith, nat_tests)

@@ -1,5 +1,5 @@
 -- `position_on` meets its contract: the position stays between the two ends, which come together. Assumes nothing.
-use Prim.Native.Nat.{ℕ, ◌-◌}
+use Prim.Native.Nat.{ℕ}
 use mathlib.Core.Path.{◌≡◌, refl, ap, ◌∙◌}
 use native.Mathlib.Omega.{arith}
 use lib.Ieee.{Float, binary64, of_bits, of_int, round, le}

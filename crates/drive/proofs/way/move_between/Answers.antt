@@ -29,14 +29,14 @@ returns-then-forward-back c =
     go-forward c.args.ring c.args.present c.args.target _ _ c.requires F c.go_ahead-back.ensures _ (omega (arith, c.if-forward-back.true))
     (plain-is _ (short c.args.ring c.args.present c.args.target _ c.requires F))
 
-pub overflow_cast-result-2 : goal.overflow_cast-result-2
-overflow_cast-result-2 c = plain_fits _ (short c.args.ring c.args.target c.args.present _ (c.requires.0, (c.requires.1.1, c.requires.1.0)) c.go_ahead-back.ensures)
+pub overflow_cast-result-else-forward-back : goal.overflow_cast-result-else-forward-back
+overflow_cast-result-else-forward-back c = plain_fits _ (short c.args.ring c.args.target c.args.present _ (c.requires.0, (c.requires.1.1, c.requires.1.0)) c.go_ahead-back.ensures)
 
 pub overflow_sub-result : goal.overflow_sub-result
 overflow_sub-result c = minus-fits _ (short c.args.ring c.args.target c.args.present _ (c.requires.0, (c.requires.1.1, c.requires.1.0)) c.go_ahead-back.ensures)
 
-pub returns : goal.returns
-returns c =
+pub returns-else-forward-back : goal.returns-else-forward-back
+returns-else-forward-back c =
     let B = c.go_ahead-back.ensures in
     go-back c.args.ring c.args.present c.args.target _ _ c.requires c.go_ahead-forward.ensures B _ (omega (arith, c.if-forward-back.false))
     (minus_is _ (short c.args.ring c.args.target c.args.present _ (c.requires.0, (c.requires.1.1, c.requires.1.0)) B))
