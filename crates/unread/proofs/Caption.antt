@@ -6,15 +6,13 @@ use mathlib.Core.Bool.{true, false}
 use mathlib.Core.List.{List, [], ◌∷◌, ◌++◌}
 use borrow.Author.Tests.{eq-eqb}
 use lib.Dec.{eqb}
+use Rattle.std.specs.Prelude.{Ok, Option, Some, None}
 use Rattle.words.specs.Halves.{all}
 use Rattle.rotation.specs.Codes.{system_of}
-use Rattle.rotation.specs.declared.code.System.{System}
-use Rattle.rotation.specs.declared.code.System.TheVariants.{Of, Nowhere}
 use Rattle.layout.specs.State.{Text, Pool}
 use Rattle.layout.specs.Memory.{decode}
 use Rattle.layout.specs.Damage.{sound}
 use Rattle.pool.specs.Held.{held}
-use Rattle.pool.specs.declared.reply.Reply.TheVariants.{Done}
 use Rattle.loading.specs.Load.{text_of}
 use Rattle.feeding.specs.Parts.{joined}
 use Rattle.opening.specs.Closing.{loaded_answer}
@@ -40,15 +38,15 @@ unfolding listed caption contains has_one name_of loading
 unread (orientation_of S.Builtin n epoch) label = refl
 unread (orientation_of S.Pool n epoch) label = by (system_of n)
   where
-    by : (k : System) → contains (orientation_names n k) (text_of label caption) ≡ false
-    by Nowhere = refl
-    by (Of k) = refl
+    by : (k : Option ℕ) → contains (orientation_names n k) (text_of label caption) ≡ false
+    by None = refl
+    by (Some k) = refl
 unread (radii_of S.Builtin n) label = refl
 unread (radii_of S.Pool n) label = by (system_of n)
   where
-    by : (k : System) → contains (radii_names n k) (text_of label caption) ≡ false
-    by Nowhere = refl
-    by (Of k) = refl
+    by : (k : Option ℕ) → contains (radii_names n k) (text_of label caption) ≡ false
+    by None = refl
+    by (Some k) = refl
 
 caption-bytes : are_bytes caption ≡ true
 unfolding caption all
@@ -97,14 +95,14 @@ caption-moves-nothing = record {
 -- ---- an empty pool takes it
 
 module _ (m : List ℕ) (f : Fresh library m) (label : ℕ) where
-  load-accepted : asked (load label caption) m ≡ replied Done
+  load-accepted : asked (load label caption) m ≡ replied (Ok tt)
   unfolding says caption loading
   load-accepted = asked_is (load label caption) m (closed []) (fresh-is m f)
 
   empty : decode m ≡ []
   empty = ap (λ (s : State). s.texts) (fresh-is m f).state
 
-  fed-accepted : (parts : List (List ℕ)) → joined parts ≡ caption → asked close_load (fed_under library label parts m) ≡ replied Done
+  fed-accepted : (parts : List (List ℕ)) → joined parts ≡ caption → asked close_load (fed_under library label parts m) ≡ replied (Ok tt)
   unfolding held caption loading
   fed-accepted parts e =
       closed-answer label parts m (parts-bytes parts e)

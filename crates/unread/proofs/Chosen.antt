@@ -5,18 +5,14 @@ use mathlib.Core.Path.{◌≡◌, refl, sym, ap, ◌∙◌}
 use mathlib.Core.Bool.{Bool, true, false}
 use mathlib.Core.List.{List, [], ◌∷◌, ◌++◌}
 use lib.Ieee.{Float}
-use Rattle.std.specs.Prelude.{if◌then◌else◌}
+use Rattle.std.specs.Prelude.{if◌then◌else◌, Option, Some, None}
 use Rattle.plain.proofs.Each.{Each}
 use Rattle.plain.proofs.Tests.{true-false}
 use Rattle.rotation.specs.Codes.{system_of}
-use Rattle.rotation.specs.declared.code.System.{System}
-use Rattle.rotation.specs.declared.code.System.TheVariants.{Of, Nowhere}
 use Rattle.statement.specs.Statements.{Statement}
 use Rattle.layout.specs.State.{Pool, program}
 use Rattle.variables.specs.Variables.{Datum, has, any, variable, present}
 use Rattle.degree.specs.Degree.{degree, degree_where}
-use Rattle.degree.specs.declared.Degree.{Degree}
-use Rattle.degree.specs.declared.Degree.TheVariants as D
 use Rattle.globe.specs.Orientation.{by_degree, by_elements, orientation_from}
 use Rattle.globe.specs.Radii.{by_system, radii_from}
 use Rattle.globe.specs.declared.source.Source.TheVariants as S
@@ -147,7 +143,7 @@ same-each ns s s' e = each ns (on-each ns)
     each (x ∷ xs) f = (record { there = same-presence ns x f.0 s s' e; list = same-variable ns x f.0 s s' e }, each xs f.1)
 
 module _ (s s' : Pool) (n : ℕ) where
-  module _ (k : ℕ) (f : Each (Same s s') (orientation_names n (Of k))) where
+  module _ (k : ℕ) (f : Each (Same s s') (orientation_names n (Some k))) where
     same-degree : degree s n k ≡ degree s' n k
     unfolding degree_where
     same-degree =
@@ -157,8 +153,8 @@ module _ (s s' : Pool) (n : ℕ) where
         let g = f.1.1.1.1.1.1.1.0 in
         simp (r.there, q.there, p.there, g.there, g.list)
 
-    same-counts : (epoch : Float) (g : Degree) → by_degree s n k epoch g ≡ by_degree s' n k epoch g
-    same-counts epoch (D.Of d) =
+    same-counts : (epoch : Float) (g : Option ℕ) → by_degree s n k epoch g ≡ by_degree s' n k epoch g
+    same-counts epoch (Some d) =
         let a = f.0 in
         let b = f.1.0 in
         let c = f.1.1.0 in
@@ -167,9 +163,9 @@ module _ (s s' : Pool) (n : ℕ) where
         let p = f.1.1.1.1.1.0 in
         let x = f.1.1.1.1.1.1.0 in
         simp (r.there, q.there, p.there, a.list, b.list, c.list, r.list, q.list, p.list, x.list)
-    same-counts epoch D.Bad = refl
+    same-counts epoch None = refl
 
-    same-there : (epoch : Float) → by_elements s n epoch (Of k) ≡ by_elements s' n epoch (Of k)
+    same-there : (epoch : Float) → by_elements s n epoch (Some k) ≡ by_elements s' n epoch (Some k)
     same-there epoch =
         let a = f.0 in
         let b = f.1.0 in
@@ -180,13 +176,13 @@ module _ (s s' : Pool) (n : ℕ) where
         let x = f.1.1.1.1.1.1.0 in
         rw (same-degree, same-counts epoch (degree s' n k), a.there, b.there, c.there, r.there, q.there, p.there, x.there)
 
-  same-elements : (epoch : Float) (k : System) → Each (Same s s') (orientation_names n k) → by_elements s n epoch k ≡ by_elements s' n epoch k
-  same-elements epoch Nowhere f = refl
-  same-elements epoch (Of k) f = same-there k f epoch
+  same-elements : (epoch : Float) (k : Option ℕ) → Each (Same s s') (orientation_names n k) → by_elements s n epoch k ≡ by_elements s' n epoch k
+  same-elements epoch None f = refl
+  same-elements epoch (Some k) f = same-there k f epoch
 
-  same-radii : (k : System) → Each (Same s s') (radii_names n k) → by_system s n k ≡ by_system s' n k
-  same-radii Nowhere f = refl
-  same-radii (Of k) f = simp (f.0.there, f.0.list)
+  same-radii : (k : Option ℕ) → Each (Same s s') (radii_names n k) → by_system s n k ≡ by_system s' n k
+  same-radii None f = refl
+  same-radii (Some k) f = simp (f.0.there, f.0.list)
 
 -- the answer, by the statements with the names
 pub same_answer : (q : Query) (s s' : State) → chosen (names q) (program s.texts) ≡ chosen (names q) (program s'.texts)

@@ -8,7 +8,7 @@ use borrow.Author.Tests.{eqb-true, eqb-false, eq-eqb}
 use lib.Dec.{eqb, lit≤}
 use lib.Ieee.{Float}
 use lib.ListN.{length}
-use Rattle.std.specs.Prelude.{if◌then◌else◌}
+use Rattle.std.specs.Prelude.{if◌then◌else◌, Option, Some, None, Result, Ok, Err}
 use Rattle.plain.specs.Lists.{equal}
 use Rattle.plain.proofs.Each.{Each}
 use Rattle.plain.proofs.Tests.{is_false, true-false}
@@ -17,14 +17,8 @@ use Rattle.refusal.specs.declared.Refusal.TheVariants.{UnknownBody, Incomplete, 
 use Rattle.rotation.specs.Epochs.{in_reach}
 use Rattle.rotation.specs.Codes.{system_of}
 use Rattle.rotation.specs.Evaluation.{evaluated}
-use Rattle.rotation.specs.declared.code.System.{System}
-use Rattle.rotation.specs.declared.code.System.TheVariants.{Of, Nowhere}
 use Rattle.rotation.specs.declared.matrix.Orientation.{Orientation}
-use Rattle.rotation.specs.declared.matrix.Oriented.{Oriented}
-use Rattle.rotation.specs.declared.matrix.Oriented.TheVariants.{Given, Refused}
 use Rattle.rotation.specs.declared.table.Axes.{Axes}
-use Rattle.rotation.specs.declared.table.Radii.{Radii}
-use Rattle.rotation.specs.declared.table.Radii.TheVariants as A
 use Rattle.statement.specs.Statements.{numbers, Statement}
 use Rattle.statement.specs.declared.head.Operator.TheVariants.{Direct}
 use Rattle.words.proofs.Same.{same_refl}
@@ -41,8 +35,6 @@ use Rattle.wanted.specs.Elements.{none_there, complete, all_numeric, well_counte
 use Rattle.wanted.specs.declared.name.Wanted.{Wanted}
 use Rattle.wanted.specs.declared.name.Wanted.TheVariants as W
 use Rattle.degree.specs.Degree.{degree, degree_where}
-use Rattle.degree.specs.declared.Degree.{Degree}
-use Rattle.degree.specs.declared.Degree.TheVariants as D
 use Rattle.globe.specs.Orientation.{by_degree, by_elements, orientation_from}
 use Rattle.globe.specs.Radii.{axes, all_positive, radii_from}
 use Rattle.globe.specs.declared.source.Source.TheVariants as S
@@ -202,40 +194,40 @@ module _ (n k : ℕ) (h : n ≤ LARGEST) (h' : k ≤ LARGEST) where
 -- ---- answers by what is there
 
 module _ (s : Pool) (n k : ℕ) (epoch : Float) where
-  unknown : none_there s n ≡ true → by_elements s n epoch (Of k) ≡ Refused UnknownBody
+  unknown : none_there s n ≡ true → by_elements s n epoch (Some k) ≡ Err UnknownBody
   unknown e = rw e
 
-  incomplete : none_there s n ≡ false → complete s n k ≡ false → by_elements s n epoch (Of k) ≡ Refused Incomplete
+  incomplete : none_there s n ≡ false → complete s n k ≡ false → by_elements s n epoch (Some k) ≡ Err Incomplete
   incomplete e f = rw (e, f)
 
   -- what is complete is told neither to be incomplete nor, its degree being good, to be of a bad one
-  not-told : (q : Refusal) → (q ≡ MixedKind → ⊥) → (q ≡ WrongCount → ⊥) → (d : ℕ) → Refused q ≡ by_degree s n k epoch (D.Of d) → ⊥
+  not-told : (q : Refusal) → (q ≡ MixedKind → ⊥) → (q ≡ WrongCount → ⊥) → (d : ℕ) → Err q ≡ by_degree s n k epoch (Some d) → ⊥
   not-told q a b d g =
       by (evaluated (elements s n) epoch d (angles s n k) (list s n W.NutPrecRa) (list s n W.NutPrecDec) (list s n W.NutPrecPm))
       (all_numeric s n k) (well_counted s n k d) g
     where
-      by : (o : Orientation) (x y : Bool) → Refused q ≡ (if x then (if y then Given o else Refused WrongCount) else Refused MixedKind) → ⊥
+      by : (o : Orientation) (x y : Bool) → Err q ≡ (if x then (if y then Ok o else Err WrongCount) else Err MixedKind) → ⊥
       by o true true g = let z : ◌≡◌ {A = ℕ} 0 1 = cc in omega arith
       by o true false g = b (let z : q ≡ WrongCount = cc in z)
       by o false y g = a (let z : q ≡ MixedKind = cc in z)
 
-  not-incomplete : none_there s n ≡ false → complete s n k ≡ true → Refused Incomplete ≡ by_elements s n epoch (Of k) → ⊥
+  not-incomplete : none_there s n ≡ false → complete s n k ≡ true → Err Incomplete ≡ by_elements s n epoch (Some k) → ⊥
   not-incomplete e f g = degreed (degree s n k) (g ∙ rw (e, f))
     where
-      degreed : (x : Degree) → Refused Incomplete ≡ by_degree s n k epoch x → ⊥
-      degreed (D.Of d) g = not-told Incomplete apart apart' d g
+      degreed : (x : Option ℕ) → Err Incomplete ≡ by_degree s n k epoch x → ⊥
+      degreed (Some d) g = not-told Incomplete apart apart' d g
         where
           apart : Incomplete ≡ MixedKind → ⊥
           apart e = let z : ◌≡◌ {A = ℕ} 0 1 = cc in omega arith
 
           apart' : Incomplete ≡ WrongCount → ⊥
           apart' e = let z : ◌≡◌ {A = ℕ} 0 1 = cc in omega arith
-      degreed D.Bad g = let z : ◌≡◌ {A = ℕ} 0 1 = cc in omega arith
+      degreed None g = let z : ◌≡◌ {A = ℕ} 0 1 = cc in omega arith
 
-  bad : none_there s n ≡ false → complete s n k ≡ true → degree s n k ≡ D.Bad → by_elements s n epoch (Of k) ≡ Refused BadDegree
+  bad : none_there s n ≡ false → complete s n k ≡ true → degree s n k ≡ None → by_elements s n epoch (Some k) ≡ Err BadDegree
   bad e f g = rw (e, f, g)
 
-  not-bad : (d : ℕ) → none_there s n ≡ false → complete s n k ≡ true → degree s n k ≡ D.Of d → Refused BadDegree ≡ by_elements s n epoch (Of k) → ⊥
+  not-bad : (d : ℕ) → none_there s n ≡ false → complete s n k ≡ true → degree s n k ≡ Some d → Err BadDegree ≡ by_elements s n epoch (Some k) → ⊥
   not-bad d e f h g = not-told BadDegree apart apart' d (g ∙ rw (e, f, h))
     where
       apart : BadDegree ≡ MixedKind → ⊥
@@ -273,19 +265,19 @@ module _ (n k : ℕ) (h : n ≤ LARGEST) (h' : k ≤ LARGEST) where
         present-among n k h h' W.NutPrecAngles ws,
       )
 
-  module _ (epoch : Float) (reach : in_reach epoch ≡ true) (system : system_of n ≡ Of k) where
+  module _ (epoch : Float) (reach : in_reach epoch ≡ true) (system : system_of n ≡ Some k) where
     abbrev q : Query
     q = orientation_of S.Pool n epoch
 
-    says_is : (ws : List Wanted) → says (call q) (closed (pool n k ws)) ≡ C.oriented (by_elements (pool n k ws) n epoch (Of k))
+    says_is : (ws : List Wanted) → says (call q) (closed (pool n k ws)) ≡ C.oriented (by_elements (pool n k ws) n epoch (Some k))
     unfolding says orientation_from
     says_is ws = rw (reach, system)
 
     same-oriented : (ws ws' : List Wanted) → says (call q) (closed (pool n k ws)) ≡ says (call q) (closed (pool n k ws'))
-        → by_elements (pool n k ws) n epoch (Of k) ≡ by_elements (pool n k ws') n epoch (Of k)
+        → by_elements (pool n k ws) n epoch (Some k) ≡ by_elements (pool n k ws') n epoch (Some k)
     same-oriented ws ws' e = inner (sym (says_is ws) ∙ e ∙ says_is ws')
       where
-        inner : {x y : Oriented} → C.oriented x ≡ C.oriented y → x ≡ y
+        inner : {x y : Result Orientation Refusal} → C.oriented x ≡ C.oriented y → x ≡ y
         inner e = cc
 
     -- nothing is there, or something that is not all
@@ -297,7 +289,7 @@ module _ (n k : ℕ) (h : n ≤ LARGEST) (h' : k ≤ LARGEST) where
         differ g =
             let x = unknown (pool n k ws) n k epoch (none_is ws ∙ ap not a) in
             let y = incomplete (pool n k ws') n k epoch (none_is ws' ∙ ap not a') (complete-is ws' ∙ c) in
-            let e : Refused UnknownBody ≡ Refused Incomplete = sym x ∙ same-oriented ws ws' g ∙ y in
+            let e : Err UnknownBody ≡ Err Incomplete = sym x ∙ same-oriented ws ws' g ∙ y in
             let z : ◌≡◌ {A = ℕ} 0 1 = cc in omega arith
 
     -- not all is there, or all
@@ -312,8 +304,8 @@ module _ (n k : ℕ) (h : n ≤ LARGEST) (h' : k ≤ LARGEST) where
 
     -- a good degree, or a bad one
     by-degree : (w : Wanted) (ws ws' : List Wanted) → room (pool n k ws) ≡ true → room (pool n k ws') ≡ true → besides w ws ≡ besides w ws'
-        → pole ws ≡ true → whole ws ≡ true → degree (pool n k ws) n k ≡ D.Bad
-        → pole ws' ≡ true → whole ws' ≡ true → (d : ℕ) → degree (pool n k ws') n k ≡ D.Of d → Counts library q (name n k w)
+        → pole ws ≡ true → whole ws ≡ true → degree (pool n k ws) n k ≡ None
+        → pole ws' ≡ true → whole ws' ≡ true → (d : ℕ) → degree (pool n k ws') n k ≡ Some d → Counts library q (name n k w)
     by-degree w ws ws' r r' b a c g a' c' d g' = two-pools n k h h' q w ws ws' r r' b differ
       where
         differ : says (call q) (closed (pool n k ws)) ≡ says (call q) (closed (pool n k ws')) → ⊥
@@ -329,17 +321,17 @@ module _ (n k : ℕ) (h : n ≤ LARGEST) (h' : k ≤ LARGEST) where
     angled = W.NutPrecAngles ∷ W.NutPrecRa ∷ three
 
     -- 0 is no degree
-    degree-bad : degree (pool n k (W.MaxPhaseDegree ∷ angled)) n k ≡ D.Bad
+    degree-bad : degree (pool n k (W.MaxPhaseDegree ∷ angled)) n k ≡ None
     unfolding three angled kind computing degree_where all_numbers
     degree-bad =
         let ws = W.MaxPhaseDegree ∷ angled in
         rw (present-among n k h h' W.NutPrecRa ws, present-among n k h h' W.MaxPhaseDegree ws, variable-first n k h h' W.MaxPhaseDegree angled refl)
 
-    degree-one : degree (pool n k angled) n k ≡ D.Of 1
+    degree-one : degree (pool n k angled) n k ≡ Some 1
     unfolding three angled kind degree_where
     degree-one = rw (present-among n k h h' W.NutPrecRa angled, present-among n k h h' W.MaxPhaseDegree angled)
 
-    all-count : Each (Counts library q) (orientation_names n (Of k))
+    all-count : Each (Counts library q) (orientation_names n (Some k))
     unfolding three angled pole whole kind room program flat
     all-count = (
       by-presence W.PoleRa [] (W.PoleRa ∷ []) refl refl refl refl refl refl,
@@ -369,23 +361,23 @@ module _ (n k : ℕ) (h : n ≤ LARGEST) (h' : k ≤ LARGEST) where
 
   -- ---- radii
 
-  module _ (system : system_of n ≡ Of k) where
+  module _ (system : system_of n ≡ Some k) where
     abbrev r : Query
     r = radii_of S.Pool n
 
-    radii-count : Each (Counts library r) (radii_names n (Of k))
+    radii-count : Each (Counts library r) (radii_names n (Some k))
     unfolding kind room program flat says radii_from
     radii-count = (two-pools n k h h' r W.Radii [] (W.Radii ∷ []) refl refl refl differ, tt)
       where
         by : (x : Axes) (a b c : Bool)
-            → A.Refused UnknownBody
-            ≡ (if a then (if b then (if c then A.Given x else A.Refused BadRadius) else A.Refused WrongCount) else A.Refused MixedKind) → ⊥
+            → Err UnknownBody
+            ≡ (if a then (if b then (if c then Ok x else Err BadRadius) else Err WrongCount) else Err MixedKind) → ⊥
         by x true true true g = let z : ◌≡◌ {A = ℕ} 0 1 = cc in omega arith
         by x true true false g = let z : ◌≡◌ {A = ℕ} 0 1 = cc in omega arith
         by x true false c g = let z : ◌≡◌ {A = ℕ} 0 1 = cc in omega arith
         by x false b c g = let z : ◌≡◌ {A = ℕ} 0 1 = cc in omega arith
 
-        inner : {x y : Radii} → C.measured x ≡ C.measured y → x ≡ y
+        inner : {x y : Result Axes Refusal} → C.measured x ≡ C.measured y → x ≡ y
         inner e = cc
 
         differ : says (call r) (closed (pool n k [])) ≡ says (call r) (closed (pool n k (W.Radii ∷ []))) → ⊥
@@ -402,12 +394,12 @@ unfolding listed
 counted (orientation_of S.Builtin n epoch) e = tt
 counted (orientation_of S.Pool n epoch) e = by (system_of n) refl
   where
-    by : (k : System) → system_of n ≡ k → Each (Counts library (orientation_of S.Pool n epoch)) (orientation_names n k)
-    by Nowhere f = tt
-    by (Of k) f = let l = short-code n k (sym f) in all-count n k l.0 l.1 epoch e f
+    by : (k : Option ℕ) → system_of n ≡ k → Each (Counts library (orientation_of S.Pool n epoch)) (orientation_names n k)
+    by None f = tt
+    by (Some k) f = let l = short-code n k (sym f) in all-count n k l.0 l.1 epoch e f
 counted (radii_of S.Builtin n) e = tt
 counted (radii_of S.Pool n) e = by (system_of n) refl
   where
-    by : (k : System) → system_of n ≡ k → Each (Counts library (radii_of S.Pool n)) (radii_names n k)
-    by Nowhere f = tt
-    by (Of k) f = let l = short-code n k (sym f) in radii-count n k l.0 l.1 f
+    by : (k : Option ℕ) → system_of n ≡ k → Each (Counts library (radii_of S.Pool n)) (radii_names n k)
+    by None f = tt
+    by (Some k) f = let l = short-code n k (sym f) in radii-count n k l.0 l.1 f

@@ -1,5 +1,5 @@
 -- "Curators fear that a caption moves a globe": a caption's text, and what is claimed of it. Definitions only.
-use Rattle.std.specs.Prelude.{ℕ, ◌≡◌, true, false, List, [], ◌∷◌, ◌++◌}
+use Rattle.std.specs.Prelude.{ℕ, ◌≡◌, true, false, List, [], ◌∷◌, ◌++◌, Ok}
 use Rattle.std.specs.Float.{binary64}
 use Rattle.std.specs.Float.Ieee.{to_bits}
 use Rattle.plain.specs.Ascii.{ascii}
@@ -9,7 +9,6 @@ use Rattle.statement.specs.declared.head.Operator.TheVariants.{Direct}
 use Rattle.layout.specs.State.{Pool}
 use Rattle.layout.specs.Memory.{decode, opens}
 use Rattle.layout.specs.Damage.{sound}
-use Rattle.pool.specs.declared.reply.Reply.TheVariants.{Done}
 use Rattle.loading.specs.Load.{text_of}
 use Rattle.feeding.specs.Parts.{joined}
 use Rattle.promises.specs.Ascii.{in_data}
@@ -36,10 +35,10 @@ caption_states =
 -- an empty pool takes it, under any label, and in parts wherever it is cut
 pub record CaptionAccepted (b : Build) : Type 0 where
   pub stated : (label : ℕ) → (text_of label caption).body ≡ caption_states
-  pub loaded : (m : List ℕ) → Fresh b m → (label : ℕ) → b.answer (load label caption) m ≡ replied Done
+  pub loaded : (m : List ℕ) → Fresh b m → (label : ℕ) → b.answer (load label caption) m ≡ replied (Ok tt)
   pub fed :
       (m : List ℕ) → Fresh b m → (label : ℕ) (parts : List (List ℕ)) → joined parts ≡ caption
-      → b.answer close_load (fed_under b label parts m) ≡ replied Done
+      → b.answer close_load (fed_under b label parts m) ≡ replied (Ok tt)
 
 -- no answer about a globe changes, whatever the label, and in parts wherever it is cut
 pub record CaptionMovesNothing (b : Build) : Type 0 where

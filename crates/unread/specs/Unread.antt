@@ -1,7 +1,7 @@
 -- "loading, removing or re-ordering held texts that contain no statement of any name a given orientation or radii query may read, its system's
 -- angles and degree included, leaves that query's answer the same, its refusals too, as long as the other held texts keep their order and the
 -- pool isn't damaged." The names are those of crate `reads`. Of any build. Definitions only.
-use Rattle.std.specs.Prelude.{ℕ, ◌≡◌, Bool, true, false, List, [], ◌∷◌, ◌++◌, eqb, Float, if◌then◌else◌}
+use Rattle.std.specs.Prelude.{ℕ, ◌≡◌, Bool, true, false, List, [], ◌∷◌, ◌++◌, eqb, Float, if◌then◌else◌, Result}
 use Rattle.plain.specs.Lists.{equal, Each}
 use Rattle.rotation.specs.Epochs.{in_reach}
 use Rattle.statement.specs.Statements.{Statement}
@@ -16,9 +16,9 @@ use Rattle.globe.specs.declared.source.Source.{Source}
 use Rattle.promises.specs.Calls as C
 use Rattle.promises.specs.Calls.{Call, Build}
 use Rattle.promises.specs.Histories.{in_parts, coming, after, fed_under, Fresh, Typed, texts}
+use Rattle.drive.specs.declared.answer.Motion.{Motion}
 use Rattle.drive.specs.Calls.{Places, Steps}
-use Rattle.drive.specs.declared.answer.Placed.{Placed}
-use Rattle.drive.specs.declared.answer.Moved.{Moved}
+use Rattle.refusal.specs.declared.Refusal.{Refusal}
 use Rattle.reads.specs.Names.{Name, Query, orientation_of, radii_of, names}
 
 -- "a given orientation or radii query", as a call
@@ -154,9 +154,9 @@ AllCount b = (q : Query) → reached q ≡ true → Each (Counts b q) (names q)
 pub record DriveUnread : Type 0 where
   pub position :
       (source : Source) (m m' : List ℕ) (code : ℕ) (epoch : Float) (ring : ℕ) → sound m ≡ true → sound m' ≡ true
-      → Alike (orientation_of source code epoch) (decode m) (decode m') → (r r' : Placed)
+      → Alike (orientation_of source code epoch) (decode m) (decode m') → (r r' : Result ℕ Refusal)
       → Places source m code epoch ring r → Places source m' code epoch ring r' → r ≡ r'
   pub move :
       (source : Source) (m m' : List ℕ) (code : ℕ) (epoch : Float) (ring present : ℕ) → sound m ≡ true → sound m' ≡ true
-      → Alike (orientation_of source code epoch) (decode m) (decode m') → (r r' : Moved)
+      → Alike (orientation_of source code epoch) (decode m) (decode m') → (r r' : Result Motion Refusal)
       → Steps source m code epoch ring present r → Steps source m' code epoch ring present r' → r ≡ r'
