@@ -5,7 +5,7 @@ use mathlib.Core.List.{List, [], ◌∷◌, ◌++◌}
 use Prim.Native.Nat.{ℕ, ◌+◌, ◌<◌}
 use native.Mathlib.Numerals.{add-one}
 use native.Mathlib.Omega.{arith}
-use borrow.Author.Tests.{eq-eqb, ne_eqb}
+use borrow.Author.Tests.{eq-eqb}
 use lib.Dec.{eqb}
 use lib.ListN.{length, take, drop, get_or, length-drop, take-append-drop}
 use lib.Seq.{take-suc, length-take-le, get_or-take, get_or-drop}
@@ -28,9 +28,6 @@ doubled-append (b ∷ xs) ys = by (eqb b QUOTE) (doubled-append xs ys)
     by false r = ap (λ (l : List ℕ). b ∷ l) r
 
 -- ---- one byte
-
-pub doubled-plain : (b : ℕ) → (b ≡ QUOTE → ⊥) → doubled (b ∷ []) ≡ b ∷ []
-doubled-plain b h = rw (ne_eqb b QUOTE h)
 
 pub doubled-quote : (b : ℕ) → b ≡ QUOTE → doubled (b ∷ []) ≡ (QUOTE ∷ []) ++ (QUOTE ∷ [])
 doubled-quote b h = rw (eq-eqb b QUOTE h)

@@ -6,10 +6,8 @@ ghost use Rattle.pen.specs.Digits.{digit_of, digits};
 pub fn spell(w: u64, text: &mut [u8])
     ensures { text.new ≡ digits (length text.old) w }
 {
-    let mut i = text.len();
     let mut rest = w;
-    while i > 0 {
-        i -= 1;
+    for i in (0..text.len()).rev() {
         text[i] = digit(rest % 16);
         rest /= 16;
     }

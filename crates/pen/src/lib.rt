@@ -1,4 +1,5 @@
 // Bytes, numbers and lines, written at a place of a lent buffer. Each function answers the place after what it wrote.
+// No struct holds the buffer and the place: its two states would name in each contract the same four values that `Writes` names here.
 #![tactic(auto)]
 
 pub mod digits;

@@ -29,10 +29,8 @@ fn write_doubled(out: &mut [u8], at: usize, words: &[u64], from: usize, n: usize
     ensures { Writes at (doubled (part from n (octets words.now))) out.old result out.new }
 {
     let mut end = at;
-    let mut i = 0;
-    while i < n {
+    for i in 0..n {
         end = write_inside(out, end, byte_at(words, from + i));
-        i += 1;
     }
     end
 }

