@@ -1,51 +1,32 @@
-// What the programs print, on standard output: bytes, numbers and doubles. An error is that of a write.
+// How the programs print what they tell in digits: doubles by their bits, and bytes.
 #![tactic(auto)]
 
-use pen::digits;
-use std::io;
+use std::{fmt, io};
 
-// The bytes as they stand.
-pub fn bytes(rt: &impl Print, text: &[u8]) -> io::Result<()> {
-    rt.write_all(text)
-}
+// A double by its bits, in 16 hexadecimal digits of upper case; of a NaN no bits are told.
+#[derive(Clone, Copy)]
+pub struct Bits(pub f64);
 
-// A number in decimal.
-pub fn decimal(rt: &impl Print, n: u64) -> io::Result<()> {
-    rt.print(n)
-}
-
-// A word in 16 hexadecimal digits.
-pub fn word(rt: &impl Print, w: u64) -> io::Result<()> {
-    let mut text = [0u8; 16];
-    digits::spell(w, &mut text);
-    bytes(rt, &text)
-}
-
-// A double's bits; of a NaN no bits are told.
-pub fn double(rt: &impl Print, x: f64) -> io::Result<()> {
-    if x == x {
-        word(rt, f64::to_bits(x))
-    } else {
-        bytes(rt, b"NAN")
+impl fmt::Display for Bits {
+    fn fmt<W: fmt::Write>(&self, f: &mut fmt::Formatter<W>) -> fmt::Result {
+        let x = self.0;
+        if x.is_nan() {
+            return f.write_str("NAN");
+        }
+        let bits = x.to_bits();
+        write!(f, "{bits:016X}")
     }
 }
 
-// One more field of a line: a number.
-pub fn field(rt: &impl Print, n: u64) -> io::Result<()> {
-    space(rt)?;
-    decimal(rt, n)
-}
+// Bytes in two hexadecimal digits of upper case each.
+#[derive(Clone, Copy)]
+pub struct Hex<'a>(pub &'a [u8]);
 
-// One more field of a line: a double.
-pub fn double_field(rt: &impl Print, x: f64) -> io::Result<()> {
-    space(rt)?;
-    double(rt, x)
-}
-
-pub fn space(rt: &impl Print) -> io::Result<()> {
-    bytes(rt, b" ")
-}
-
-pub fn end_line(rt: &impl Print) -> io::Result<()> {
-    bytes(rt, b"\n")
+impl<'a> fmt::Display for Hex<'a> {
+    fn fmt<W: fmt::Write>(&self, f: &mut fmt::Formatter<W>) -> fmt::Result {
+        for byte in self.0 {
+            write!(f, "{byte:02X}")?;
+        }
+        Ok(())
+    }
 }
