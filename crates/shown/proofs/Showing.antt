@@ -1,9 +1,12 @@
 -- A pool is shown part by part: each part has room, and together they are all that is shown. Assumes nothing.
 use mathlib.Core.Path.{◌≡◌, refl, sym, ap, subst, ◌∙◌}
-use mathlib.Core.List.{List, ◌++◌}
+use mathlib.Core.List.{List, ◌++◌, map}
 use Prim.Native.Nat.{ℕ}
 use native.Mathlib.Omega.{arith}
-use lib.ListN.{length}
+use lib.Dec.{ltb}
+use lib.ListN.{length, take}
+use lib.Seq.{take_all}
+use Rattle.words.specs.Halves.{all}
 use Rattle.words.specs.Placed.{Room, Writes}
 use Rattle.words.proofs.Placed.{writes-same, room-first, room-then, writes_then}
 use Rattle.layout.specs.State.{Pool}
@@ -14,7 +17,7 @@ use Rattle.layout.proofs.Sound.{Sound, sound-of}
 use Rattle.layout.proofs.Holds.{decode-fits}
 use Rattle.variables.specs.Variables.{Datum}
 use Rattle.pen.specs.Pen.{entry}
-use Rattle.order.specs.Places.{Places, Ordering, Orders}
+use Rattle.order.specs.Places.{Places, Ordering, Orders, name_at, name_count}
 use Rattle.order.proofs.Named.{length-names_at}
 use Rattle.shown.specs.Shown.{VARIABLES, VALUES, names_in, values_of, counts, value_lines, shown}
 use Rattle.shown.specs.Shows.{listed, lines_of, Counting, Counts, Valuing, Showing}
@@ -53,7 +56,7 @@ module _ (m out : List ℕ) (W : Showing m out) where
   undamaged : Sound m
   undamaged = sound-of m W.whole
 
-  pub sized : Framed m
+  sized : Framed m
   sized = undamaged.sizes
 
   pub ordering : (names ps : List ℕ) → names ≡ name_words m → STATEMENTS ≡ length ps → Ordering names ps
@@ -62,16 +65,33 @@ module _ (m out : List ℕ) (W : Showing m out) where
       (record { names = legible m undamaged; room = omega (arith, name-count m undamaged, sized.statements) })
 
   module _ (names before : List ℕ) (e : names ≡ name_words m) (count : ℕ) (ps : List ℕ) (O : Orders names before count ps) where
-    places : Places (name_words m) count ps
-    places = subst (λ (ws : List ℕ). Places ws count ps) e O.places
+    original : Places (name_words m) count ps
+    original = subst (λ (ws : List ℕ). Places ws count ps) e O.places
 
-    listed-names : listed m count ps ≡ names_in s
-    listed-names =
+    original-names : listed m count ps ≡ names_in s
+    original-names =
         let o : Orders (name_words m) before count ps = subst (λ (ws : List ℕ). Orders ws before count ps) e O in
         o.names ∙ ordered-names m undamaged
 
+    -- they alone
+    abbrev first : List ℕ
+    first = take count ps
+
+    all-first : take (length first) first ≡ first
+    all-first = take_all (length first) first (omega arith)
+
+    places : Places (name_words m) (length first) first
+    places =
+        record {
+          few = omega arith;
+          within = ap (all (λ p. ltb p (name_count (name_words m)))) all-first ∙ original.within;
+        }
+
+    listed-names : listed m (length first) first ≡ names_in s
+    listed-names = ap (map (name_at (name_words m))) all-first ∙ original-names
+
     counted : count ≡ length (names_in s)
-    counted = sym (length-names_at (name_words m) count ps places) ∙ ap length listed-names
+    counted = sym (length-names_at (name_words m) count ps original) ∙ ap length original-names
 
     heads : entry VARIABLES count ≡ heading s
     heads = ap (entry VARIABLES) counted
@@ -89,16 +109,15 @@ module _ (m out : List ℕ) (W : Showing m out) where
       room-lines : Room a (lines s ++ (middle s ++ last)) x
       room-lines = room-then (heading s) (lines s ++ (middle s ++ last)) rooms headed
 
-      pub counting : Counting m count ps a x
+      pub counting : Counting m (length first) first a x
       counting =
           record {
-            whole = W.whole;
             within = places;
             room = subst (λ (ns : List (List ℕ)). Room a (counts s ns) x) (sym listed-names) (room-first (lines s) (middle s ++ last) room-lines);
             few = omega (arith, ap (λ (ns : List (List ℕ)). length (values_of s ns)) listed-names, values-few s, (decode-fits m undamaged).values);
           }
 
-      module _ (ends : Ends) (y : List ℕ) (C : Counts m (listed m count ps) a x ends y) where
+      module _ (ends : Ends) (y : List ℕ) (C : Counts m (listed m (length first) first) a x ends y) where
         total : entry VALUES ends.total ≡ middle s
         total = ap (entry VALUES) (C.total ∙ ap (λ (ns : List (List ℕ)). length (values_of s ns)) listed-names)
 
@@ -115,18 +134,17 @@ module _ (m out : List ℕ) (W : Showing m out) where
           totalled : Writes ends.at (middle s) y b z
           totalled = writes-same total v
 
-          last= : lines_of m (listed m count ps) ≡ last
+          last= : lines_of m (listed m (length first) first) ≡ last
           last= = ap (lines_of m) listed-names
 
-          pub valuing : Valuing m count ps b z
+          pub valuing : Valuing m (length first) first b z
           valuing =
               record {
-                whole = W.whole;
                 within = places;
                 room = subst (λ (l : List ℕ). Room b l z) (sym last=) (room-then (middle s) last room-middle totalled);
               }
 
-          pub all_shown : {r : ℕ} {o : List ℕ} → Writes b (lines_of m (listed m count ps)) z r o → Writes 0 (shown s) out r o
+          pub all_shown : {r : ℕ} {o : List ℕ} → Writes b (lines_of m (listed m (length first) first)) z r o → Writes 0 (shown s) out r o
           all_shown u =
               writes-same (sym (parts s))
               (writes_then (heading s) (lines s ++ (middle s ++ last)) headed

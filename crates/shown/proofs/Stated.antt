@@ -4,12 +4,11 @@ use mathlib.Core.Bool.{true, false}
 use mathlib.Core.List.{List, map}
 use Prim.Native.Nat.{ℕ, ◌+◌, ◌/◌, ◌≤◌, ◌<◌}
 use native.Mathlib.Omega.{arith}
-use borrow.Author.Tests.{eq-eqb, ne_eqb}
+use borrow.Author.Tests.{ne_eqb}
 use lib.Dec.{eqb, leb}
 use lib.ListN.{length, take, drop, get_or}
-use lib.Seq.{length-take-le}
 use Rattle.value.specs.Strings.{STRING}
-use Rattle.statement.specs.Statements.{Values, numbers, strings}
+use Rattle.statement.specs.Statements.{Values, strings}
 use Rattle.words.specs.Over.{part}
 use Rattle.words.specs.Halves.{upper, lower, sum, all}
 use Rattle.words.specs.Placed.{Room, Writes}
@@ -18,20 +17,20 @@ use Rattle.words.proofs.Placed.{writes-same}
 use Rattle.octets.specs.Octets.{octets}
 use Rattle.layout.specs.Limits.{BYTES_AT, BYTEWORDS}
 use Rattle.layout.specs.Memory.{byte_count, head_words, value_words, held_bytes, cut_strings, bytes_taken}
-use Rattle.layout.specs.Damage.{Framed, Counted, total_bytes}
+use Rattle.layout.specs.Damage.{Framed, Counted, total_bytes, sound}
 use Rattle.layout.proofs.Areas.{length-heads, length-values, length-bytewords}
 use Rattle.layout.proofs.Sound.{Sound, sound-of}
-use Rattle.variables.specs.Variables.{number, string, each}
+use Rattle.variables.specs.Variables.{string, each}
 use Rattle.variables.proofs.Held.{values-within, fits-at}
 use Rattle.shown.specs.Shown.{value_lines}
 use Rattle.shown.specs.Shows.{head_of, words_of, stated, Stating, spelt, Spelling}
 use Rattle.shown.proofs.Strings.{Short, cut-front, bytes-within}
 
-module _ (m : List ℕ) (k value at : ℕ) (out : List ℕ) (T : Stating m k value at out) where
+module _ (m : List ℕ) (k value at : ℕ) (out : List ℕ) (T : Stating m k value at out) (u : sound m ≡ true) where
   S : Sound m
-  S = sound-of m T.whole
+  S = sound-of m u
 
-  pub sized : Framed m
+  sized : Framed m
   sized = S.sizes
 
   abbrev kind : ℕ
@@ -52,9 +51,6 @@ module _ (m : List ℕ) (k value at : ℕ) (out : List ℕ) (T : Stating m k val
     pub words-within : value + lower (get_or heads k 0) ≤ length values
     words-within = omega (arith, T.offset, ap lower head=, values-within m S k T.held, ap length v)
 
-    pub before : k ≡ length (take k heads)
-    before = sym (length-take-le k heads (omega (arith, held)))
-
     pub counted : Counted (take k heads) values
     counted =
         record {
@@ -65,21 +61,6 @@ module _ (m : List ℕ) (k value at : ℕ) (out : List ℕ) (T : Stating m k val
     module _ (words : List ℕ) (w : words ≡ part value (lower (get_or heads k 0)) values) where
       words= : words ≡ words_of m k
       words= = w ∙ (λ i. part (T.offset i) (lower (head= i)) (v i))
-
-      -- ---- numbers
-
-      module _ (z : upper (get_or heads k 0) / 2 ≡ 0) where
-        number-lines : value_lines (each (stated m k)) ≡ value_lines (map number words)
-        number-lines =
-            let t : eqb kind 0 ≡ true = eq-eqb kind 0 (sym (ap (λ (h : ℕ). upper h / 2) head=) ∙ z) in
-            let x : stated m k ≡ numbers (words_of m k) = rw t in
-            ap (λ (v : Values). value_lines (each v)) x ∙ ap (λ (l : List ℕ). value_lines (map number l)) (sym words=)
-
-        pub room-numbers : Room at (value_lines (map number words)) out
-        room-numbers = subst (λ (l : List ℕ). Room at l out) number-lines T.room
-
-        pub writes-numbers : {r : ℕ} {o : List ℕ} → Writes at (value_lines (map number words)) out r o → Writes at (value_lines (each (stated m k))) out r o
-        writes-numbers = writes-same (sym number-lines)
 
       -- ---- strings
 

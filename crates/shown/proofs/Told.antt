@@ -13,7 +13,6 @@ use Rattle.words.specs.Placed.{Room, Writes}
 use Rattle.words.proofs.Placed.{writes_nothing, writes-same, room-first, room-then, writes_then}
 use Rattle.names.specs.Names.{NAMEWORDS}
 use Rattle.layout.specs.Memory.{statement_count, value_count}
-use Rattle.layout.specs.Damage.{sound}
 use Rattle.layout.proofs.Areas.{length-values}
 use Rattle.layout.proofs.Sound.{Sound}
 use Rattle.variables.specs.Variables.{Datum, each}
@@ -71,10 +70,9 @@ module _ {m name words heads names : List ℕ} (H : Hands m name words heads nam
       rest : value_lines (left name m s) ≡ own ++ value_lines (left name m (s + 1))
       rest = ap value_lines (left-given H T.offset h t e f) ∙ lines-append (each (stated m s)) (left name m (s + 1))
 
-      pub told-stating : sound m ≡ true → Room at (lines m name) out → Stating m s value end now
-      told-stating w r =
+      pub told-stating : Room at (lines m name) out → Stating m s value end now
+      told-stating r =
           record {
-            whole = w;
             held = h;
             offset = T.offset;
             room =

@@ -32,7 +32,6 @@ abbrev pub line : (memory name : List ℕ) → List ℕ
 line memory name = entry name (size memory name)
 
 pub record Adding (memory words : List ℕ) (ends : Ends) (out : List ℕ) : Type 0 where
-  pub whole : sound memory ≡ true
   pub named : Holding words
   pub room : Room ends.at (line memory (unpacked words)) out
   pub few : ends.total + size memory (unpacked words) ≤ VALUES
@@ -48,7 +47,6 @@ abbrev pub listed : (memory : List ℕ) (held : ℕ) (places : List ℕ) → Lis
 listed memory held places = names_at (name_words memory) held places
 
 pub record Counting (memory : List ℕ) (held : ℕ) (places : List ℕ) (at : ℕ) (out : List ℕ) : Type 0 where
-  pub whole : sound memory ≡ true
   pub within : Places (name_words memory) held places
   pub room : Room at (counts (decode memory) (listed memory held places)) out
   pub few : length (values_of (decode memory) (listed memory held places)) ≤ VALUES
@@ -64,7 +62,6 @@ abbrev pub lines_of : (memory : List ℕ) → List (List ℕ) → List ℕ
 lines_of memory ns = value_lines (values_of (decode memory) ns)
 
 pub record Valuing (memory : List ℕ) (held : ℕ) (places : List ℕ) (at : ℕ) (out : List ℕ) : Type 0 where
-  pub whole : sound memory ≡ true
   pub within : Places (name_words memory) held places
   pub room : Room at (lines_of memory (listed memory held places)) out
 
@@ -74,14 +71,11 @@ abbrev pub lines : (memory name : List ℕ) → List ℕ
 lines memory name = value_lines (variable name (decode memory))
 
 pub record Telling (memory words : List ℕ) (at : ℕ) (out : List ℕ) : Type 0 where
-  pub whole : sound memory ≡ true
   pub named : Holding words
   pub room : Room at (lines memory (unpacked words)) out
 
 -- where it begins is known
 pub record Passing (memory name : List ℕ) (start : Start) (at : ℕ) (out : List ℕ) : Type 0 where
-  pub whole : sound memory ≡ true
-  pub named : legal name ≡ true
   pub begins : Begins name memory start.statement start.value start.count start.strings
   pub room : Room at (lines memory name) out
 
@@ -99,7 +93,6 @@ stated memory s =
     cut_values (upper (head_of memory s) / 2) (words_of memory s) (drop (total_bytes (take s (head_words memory)) (value_words memory)) (held_bytes memory))
 
 pub record Stating (memory : List ℕ) (place value at : ℕ) (out : List ℕ) : Type 0 where
-  pub whole : sound memory ≡ true
   pub held : place < statement_count memory
   pub offset : value ≡ sum (take place (head_words memory))
   pub room : Room at (value_lines (each (stated memory place))) out

@@ -1,19 +1,20 @@
 // "The listing shows a string quoted, as written, in place of bits": the values of variables, in order.
-ghost use Rattle.std.specs.Prelude.{map};
+ghost use Rattle.std.specs.Prelude.{length, map};
 ghost use Rattle.words.specs.Placed.{Room, Writes};
 ghost use Rattle.names.specs.Names.{unpacked};
 ghost use Rattle.variables.specs.Variables.{number, each};
 ghost use Rattle.shown.specs.Shown.{value_lines};
 ghost use Rattle.shown.specs.Shows.{listed, lines_of, Valuing, lines, Telling, Passing, stated, Stating, spelt, Spelling};
 
-use layout::area::{bytes_of, heads_of, names_of, values_of};
 use layout::limits::HALF;
 use layout::taken::sum_bytes;
+use layout::undamaged::Undamaged;
 use names::pack::pack;
 use order::in_words::{name_at, spread};
 use pen::quoted::write_quoted;
 use pen::write_line;
 use value::classes::{Class, run};
+use variables::legal::Legal;
 use variables::name::is_named;
 use variables::walk::{Start, walk};
 use words::read::part_of;
@@ -21,71 +22,67 @@ use words::read::part_of;
 // A head's upper number is kind · 2 + operator: the kind's number of numbers.
 const NUMBERS: u64 = 0;
 
-// The values of the variables at the first places.
-pub fn show_values(pool: &[u64], places: &[usize], count: usize, out: &mut [u8], at: usize) -> usize
-    requires { Valuing pool.now count places.now at out.old }
-    ensures { Writes at (lines_of pool.now (listed pool.now count places.now)) out.old result out.new }
+// The values of the variables at these places.
+pub fn show_values(pool: Undamaged, places: &[usize], out: &mut [u8], at: usize) -> usize
+    requires { Valuing pool.words.now (length places.now) places.now at out.old }
+    ensures { Writes at (lines_of pool.entry.words.now (listed pool.entry.words.now (length places.now) places.now)) out.old result out.new }
 {
-    let names = names_of(pool);
+    let names = pool.names();
     let mut end = at;
-    let mut k = 0;
-    while k < count {
-        let words = name_at(names, places[k]);
+    for place in places {
+        let words = name_at(names, *place);
         end = show_variable(pool, words, out, end);
-        k += 1;
     }
     end
 }
 
 // The values of one variable.
-fn show_variable(pool: &[u64], words: &[u64], out: &mut [u8], at: usize) -> usize
-    requires { Telling pool.now words.now at out.old }
-    ensures { Writes at (lines pool.now (unpacked words.now)) out.old result out.new }
+fn show_variable(pool: Undamaged, words: &[u64], out: &mut [u8], at: usize) -> usize
+    requires { Telling pool.words.now words.now at out.old }
+    ensures { Writes at (lines pool.entry.words.now (unpacked words.now)) out.old result out.new }
 {
     let mut room = [0u8; 32];
     spread(words, &mut room);
-    let name = run(Class::Name, &room, 0);
+    let name = Legal {
+        bytes: run(Class::Name, &room, 0),
+    };
     let start = walk(pool, name);
     show_statements(pool, name, start, out, at)
 }
 
 // The values of the statements that have the name, from where the variable begins on.
-fn show_statements(pool: &[u64], name: &[u8], start: Start, out: &mut [u8], at: usize) -> usize
-    requires { Passing pool.now name.now start at out.old }
-    ensures { Writes at (lines pool.now name.now) out.old result out.new }
+fn show_statements(pool: Undamaged, name: Legal, start: Start, out: &mut [u8], at: usize) -> usize
+    requires { Passing pool.words.now name.bytes.now start at out.old }
+    ensures { Writes at (lines pool.entry.words.now name.entry.bytes.now) out.old result out.new }
 {
-    let words = pack(name);
-    let heads = heads_of(pool);
-    let names = names_of(pool);
-    let mut s = start.statement;
+    let words = pack(name.bytes);
+    let heads = pool.heads();
+    let names = pool.names();
     let mut value = start.value;
     let mut end = at;
-    while s < heads.len() {
-        let i = s;
-        let from = value;
-        value += (heads[i] % HALF) as usize;
-        s += 1;
-        if is_named(names, i, &words) {
-            end = show_statement(pool, i, from, out, end);
+    for s in start.statement..heads.len() {
+        if is_named(names, s, &words) {
+            end = show_statement(pool, s, value, out, end);
         }
+        value += (heads[s] % HALF) as usize;
     }
     end
 }
 
 // The values of one statement, the first of which is at place `value`.
-fn show_statement(pool: &[u64], s: usize, value: usize, out: &mut [u8], at: usize) -> usize
-    requires { Stating pool.now s value at out.old }
-    ensures { Writes at (value_lines (each (stated pool.now s))) out.old result out.new }
+fn show_statement(pool: Undamaged, s: usize, value: usize, out: &mut [u8], at: usize) -> usize
+    requires { Stating pool.words.now s value at out.old }
+    ensures { Writes at (value_lines (each (stated pool.entry.words.now s))) out.old result out.new }
 {
-    let heads = heads_of(pool);
-    let values = values_of(pool);
+    let heads = pool.heads();
+    let values = pool.values();
     let head = heads[s];
     let words = part_of(values, value, (head % HALF) as usize);
     if head / HALF / 2 == NUMBERS {
         return show_numbers(words, out, at);
     }
     let from = sum_bytes(&heads[..s], values) as usize;
-    show_strings(bytes_of(pool), from, words, out, at)
+    show_strings(pool.bytes(), from, words, out, at)
 }
 
 // Numbers: the bits of each on a line.
@@ -94,10 +91,8 @@ fn show_numbers(words: &[u64], out: &mut [u8], at: usize) -> usize
     ensures { Writes at (value_lines (map number words.now)) out.old result out.new }
 {
     let mut end = at;
-    let mut i = 0;
-    while i < words.len() {
-        end = write_line(out, end, words[i]);
-        i += 1;
+    for word in words {
+        end = write_line(out, end, *word);
     }
     end
 }
@@ -109,12 +104,10 @@ fn show_strings(bytes: &[u64], from: usize, lengths: &[u64], out: &mut [u8], at:
 {
     let mut byte = from;
     let mut end = at;
-    let mut i = 0;
-    while i < lengths.len() {
-        let n = lengths[i] as usize;
+    for length in lengths {
+        let n = *length as usize;
         end = write_quoted(out, end, bytes, byte, n);
         byte += n;
-        i += 1;
     }
     end
 }

@@ -38,22 +38,18 @@ module _ (m ws : List ℕ) (ends : Ends) (out : List ℕ) (A : Adding m ws ends 
   added : (at : ℕ) (out' : List ℕ) → Writes ends.at (entry name count) out at out' → Adds m (unpacked ws) ends out (record { at = at; total = ends.total + count }) out'
   added at out' w = record { lines = writes-same entry-is w; total = ap (λ (k : ℕ). ends.total + k) counted }
 
-pub spread-requires : goal.spread-requires
-spread-requires c = omega (arith, c.requires.named.four)
-
-pub walk-count-requires : goal.walk-count-requires
-walk-count-requires c =
-    (c.requires.whole, name-legal _ c.requires.named _ _ c.spread.ensures c.run-name.ensures)
+pub invariant_of-name : goal.invariant_of-name
+invariant_of-name c = record { ruled = name-legal _ c.requires.named _ _ c.spread.ensures c.run.ensures }
 
 pub write_entry-at-requires : goal.write_entry-at-requires
 write_entry-at-requires c =
-    room-line _ _ _ _ c.requires _ _ c.spread.ensures c.run-name.ensures _ _ _ _ c.walk-count.ensures
+    room-line _ _ _ _ c.requires _ _ c.spread.ensures c.run.ensures _ _ _ _ c.walk-count.ensures
 
 pub overflow_add-result : goal.overflow_add-result
 overflow_add-result c =
-    let h = few _ _ _ _ c.requires _ _ c.spread.ensures c.run-name.ensures _ _ _ _ c.walk-count.ensures in
+    let h = few _ _ _ _ c.requires _ _ c.spread.ensures c.run.ensures _ _ _ _ c.walk-count.ensures in
     omega arith
 
 pub returns : goal.returns
 returns c =
-    added _ _ _ _ c.requires _ _ c.spread.ensures c.run-name.ensures _ _ _ _ c.walk-count.ensures _ _ c.write_entry-at.ensures
+    added _ _ _ _ c.requires _ _ c.spread.ensures c.run.ensures _ _ _ _ c.walk-count.ensures _ _ c.write_entry-at.ensures

@@ -1,15 +1,16 @@
 -- `show_counts` meets its contract: after k turns the lines of the first k variables are written and their values counted. Assumes nothing.
 use mathlib.Core.Path.{◌≡◌, refl, sym, ap, ap₂, subst, ◌∙◌}
+use mathlib.Core.Bool.{true}
 use mathlib.Core.List.{List}
-use Prim.Native.Nat.{ℕ, ◌+◌, ◌-◌, ◌≤◌, ◌<◌}
+use Prim.Native.Nat.{ℕ, ◌+◌, ◌≤◌, ◌<◌}
 use native.Mathlib.Omega.{arith}
 use lib.ListN.{length, take, get_or, length-append}
 use lib.Seq.{take_all}
 use Rattle.words.specs.Placed.{Room, Writes}
-use Rattle.words.proofs.Placed.{writes-length}
 use Rattle.names.specs.Names.{unpacked}
 use Rattle.layout.specs.State.{flat}
 use Rattle.layout.specs.Memory.{name_words}
+use Rattle.layout.specs.Damage.{sound}
 use Rattle.layout.proofs.Sound.{Sound, sound-of}
 use Rattle.variables.specs.Variables.{Datum}
 use Rattle.order.specs.Places.{words_at}
@@ -26,12 +27,12 @@ none-listed : (m : List ℕ) (ns : List (List ℕ)) (at : ℕ) (out : List ℕ) 
 unfolding flat
 none-listed m ns at out = record { lines = writes-none (line m) ns; total = refl }
 
-module _ (m : List ℕ) (held : ℕ) (ps : List ℕ) (at : ℕ) (out : List ℕ) (C : Counting m held ps at out) where
+module _ (m : List ℕ) (held : ℕ) (ps : List ℕ) (at : ℕ) (out : List ℕ) (C : Counting m held ps at out) (u : sound m ≡ true) where
   abbrev ns : List (List ℕ)
   ns = listed m held ps
 
   S : Sound m
-  S = sound-of m C.whole
+  S = sound-of m u
 
   -- a turn
   module _ (k : ℕ) (h : k < held) (ends : Ends) (out' : List ℕ) (L : Listed m ns at out k ends out')
@@ -46,7 +47,6 @@ module _ (m : List ℕ) (held : ℕ) (ps : List ℕ) (at : ℕ) (out : List ℕ)
     unfolding counts values_of
     adding =
         record {
-          whole = C.whole;
           named = holding m S held ps C.within k h names words e w;
           room = subst (λ (n : List ℕ). Room ends.at (line m n) out') name-is (room_next (line m) ns k (first m) within L.lines C.room);
           few = omega (arith, L.total, ap (size m) name-is, flat-within (valued m) ns k (first m) within, C.few);
@@ -73,33 +73,21 @@ module _ (m : List ℕ) (held : ℕ) (ps : List ℕ) (at : ℕ) (out : List ℕ)
         total = L.total ∙ ap (λ (l : List (List ℕ)). length (flat (valued m) l)) (take_all k ns l);
       }
 
-pub names_of-names-requires : goal.names_of-names-requires
-names_of-names-requires c = (sound-of _ c.requires.whole).sizes
-
-pub loop-k-init : goal.loop-k-init
-loop-k-init c = none-listed _ _ _ _
-
-pub offset_bounds-places-k : goal.offset_bounds-places-k
-offset_bounds-places-k c = omega (arith, c.requires.within.few)
-
-pub bounds-places-k : goal.bounds-places-k
-bounds-places-k c = omega (arith, c.requires.within.few)
+pub loop-place-init : goal.loop-place-init
+loop-place-init c = none-listed _ _ _ _
 
 pub name_at-words-requires : goal.name_at-words-requires
 name_at-words-requires c =
-    place-named _ (sound-of _ c.requires.whole) _ _ c.requires.within c.loop-k.k c.loop-k-test.true _ c.names_of-names.ensures
+    place-named _ (sound-of _ c.args.pool.tested) _ _ c.requires.within c.loop-place.place-index c.loop-place-test.true _ c.names-names.ensures
 
 pub show_count-ends-requires : goal.show_count-ends-requires
 show_count-ends-requires c =
-    adding _ _ _ _ _ c.requires _ c.loop-k-test.true _ _ c.loop-k.invariant _ _ c.names_of-names.ensures c.name_at-words.ensures
+    adding _ _ _ _ _ c.requires c.args.pool.tested _ c.loop-place-test.true _ _ c.loop-place.invariant _ _ c.names-names.ensures c.name_at-words.ensures
 
-pub loop-k-preserved : goal.loop-k-preserved
-loop-k-preserved c =
-    one_more _ _ _ _ _ c.requires _ c.loop-k-test.true _ _ c.loop-k.invariant _ _ c.names_of-names.ensures c.name_at-words.ensures _ _ c.show_count-ends.ensures
-
-pub shape_of-out : goal.shape_of-out
-shape_of-out c = writes-length c.loop-k.invariant.lines
+pub loop-place-preserved : goal.loop-place-preserved
+loop-place-preserved c =
+    one_more _ _ _ _ _ c.requires c.args.pool.tested _ c.loop-place-test.true _ _ c.loop-place.invariant _ _ c.names-names.ensures c.name_at-words.ensures _ _ c.show_count-ends.ensures
 
 pub returns : goal.returns
 returns c =
-    all_listed _ _ _ _ _ c.requires c.loop-k.k c.loop-k-test.false _ _ c.loop-k.invariant
+    all_listed _ _ _ _ _ c.requires c.args.pool.tested c.loop-place.place-index c.loop-place-test.false _ _ c.loop-place.invariant

@@ -1,7 +1,7 @@
 -- `show_counts` meets its contract: after k turns the lines of the first k variables are written and their values counted. Assumes nothing.
 use mathlib.Core.Path.{◌≡◌}
 use mathlib.Core.List.{List}
-use Prim.Native.Nat.{ℕ, ◌-◌}
+use Prim.Native.Nat.{ℕ}
 use lib.ListN.{length, take}
 use Rattle.words.specs.Placed.{Writes}
 use Rattle.layout.specs.State.{flat}
@@ -20,8 +20,5 @@ pub record Listed (m : List ℕ) (ns : List (List ℕ)) (at : ℕ) (out : List �
   pub lines : Writes at (flat (line m) (take k ns)) out ends.at out'
   pub total : ends.total ≡ length (flat (valued m) (take k ns))
 
-abbrev pub invariant-loop-k : goal.invariant-loop-k
-invariant-loop-k l = Listed l.pool (listed l.pool l.count l.places) l.at l.initial.out l.k l.ends l.out
-
-abbrev pub decreases-loop-k : goal.decreases-loop-k
-decreases-loop-k l = l.count - l.k
+abbrev pub invariant-loop-place : goal.invariant-loop-place
+invariant-loop-place l = Listed l.fn.pool.words.now (listed l.fn.pool.words.now (length l.places) l.places) l.at l.initial.out l.place-index l.ends l.out

@@ -1,11 +1,10 @@
 -- `show_numbers` meets its contract: after i turns the lines of the first i numbers are written. Assumes nothing.
 use mathlib.Core.Path.{◌≡◌, sym, subst}
 use mathlib.Core.List.{List, map}
-use Prim.Native.Nat.{ℕ, ◌+◌, ◌-◌, ◌≤◌, ◌<◌}
+use Prim.Native.Nat.{ℕ, ◌+◌, ◌≤◌, ◌<◌}
 use native.Mathlib.Omega.{arith}
 use lib.ListN.{length, take, get_or, length-map, get_or-map}
 use Rattle.words.specs.Placed.{Room, Writes}
-use Rattle.words.proofs.Placed.{writes-length}
 use Rattle.layout.specs.State.{flat}
 use Rattle.variables.specs.Variables.{Datum, number}
 use Rattle.shown.specs.Shown.{value_line, value_lines}
@@ -30,19 +29,16 @@ all_lines : (ws : List ℕ) (at : ℕ) (out : List ℕ) (i r : ℕ) (n : List �
 unfolding value_lines
 all_lines ws at out i r n h w = writes-all value_line (map number ws) i (omega (arith, length-map ws number)) w
 
-pub loop-i-init : goal.loop-i-init
-loop-i-init c = writes-none value_line (map number c.args.words.now)
+pub loop-word-init : goal.loop-word-init
+loop-word-init c = writes-none value_line (map number c.args.words.now)
 
 pub write_line-end-requires : goal.write_line-end-requires
 write_line-end-requires c =
-    room-line c.args.words.now _ _ c.loop-i.i c.loop-i-test.true _ _ c.loop-i.invariant c.requires
+    room-line c.args.words.now _ _ c.loop-word.word-index c.loop-word-test.true _ _ c.loop-word.invariant c.requires
 
-pub loop-i-preserved : goal.loop-i-preserved
-loop-i-preserved c =
-    one_line c.args.words.now _ _ c.loop-i.i c.loop-i-test.true _ _ c.loop-i.invariant c.write_line-end.ensures
-
-pub shape_of-out : goal.shape_of-out
-shape_of-out c = writes-length c.loop-i.invariant
+pub loop-word-preserved : goal.loop-word-preserved
+loop-word-preserved c =
+    one_line c.args.words.now _ _ c.loop-word.word-index c.loop-word-test.true _ _ c.loop-word.invariant c.write_line-end.ensures
 
 pub returns : goal.returns
-returns c = all_lines c.args.words.now _ _ c.loop-i.i _ _ c.loop-i-test.false c.loop-i.invariant
+returns c = all_lines c.args.words.now _ _ c.loop-word.word-index _ _ c.loop-word-test.false c.loop-word.invariant

@@ -2,7 +2,7 @@
 -- theirs end. Assumes nothing.
 use mathlib.Core.Path.{◌≡◌, sym, ap, subst, ◌∙◌}
 use mathlib.Core.List.{List, [], ◌∷◌, ◌++◌}
-use Prim.Native.Nat.{ℕ, ◌+◌, ◌-◌, ◌≤◌, ◌<◌}
+use Prim.Native.Nat.{ℕ, ◌+◌, ◌≤◌, ◌<◌}
 use native.Mathlib.Nat.{add-zero}
 use native.Mathlib.Omega.{arith}
 use lib.ListN.{length, take, drop, get_or, length-map, get_or-map}
@@ -13,7 +13,6 @@ use Rattle.words.specs.Over.{part}
 use Rattle.words.specs.Halves.{sum}
 use Rattle.words.specs.Placed.{Room, Writes}
 use Rattle.words.proofs.Each.{all-each}
-use Rattle.words.proofs.Placed.{writes-length}
 use Rattle.octets.specs.Octets.{octets}
 use Rattle.layout.specs.Memory.{cut_strings}
 use Rattle.layout.proofs.Spelling.{many-cut}
@@ -78,23 +77,20 @@ all-spelled : (bytes : List ℕ) (from : ℕ) (ls : List ℕ) (at : ℕ) (out : 
 unfolding value_lines
 all-spelled bytes from ls at out byte end i now h P = writes-all value_line (held bytes from ls) i (omega (arith, length-held bytes from ls)) P.lines
 
-pub loop-i-init : goal.loop-i-init
-loop-i-init c = none-spelled _ _ _ _ _
+pub loop-length-init : goal.loop-length-init
+loop-length-init c = none-spelled _ _ _ _ _
 
 pub write_quoted-end-requires : goal.write_quoted-end-requires
 write_quoted-end-requires c =
-    quoting _ _ _ _ _ c.requires c.loop-i.i c.loop-i-test.true _ _ _ c.loop-i.invariant
+    quoting _ _ _ _ _ c.requires c.loop-length.length-index c.loop-length-test.true _ _ _ c.loop-length.invariant
 
 pub overflow_add-byte : goal.overflow_add-byte
 overflow_add-byte c =
-    omega (arith, fits _ _ _ _ _ c.requires c.loop-i.i c.loop-i-test.true _ _ _ c.loop-i.invariant, c.requires.fits)
+    omega (arith, fits _ _ _ _ _ c.requires c.loop-length.length-index c.loop-length-test.true _ _ _ c.loop-length.invariant, c.requires.fits)
 
-pub loop-i-preserved : goal.loop-i-preserved
-loop-i-preserved c =
-    one_more _ _ _ _ _ c.requires c.loop-i.i c.loop-i-test.true _ _ _ c.loop-i.invariant _ _ c.write_quoted-end.ensures
-
-pub shape_of-out : goal.shape_of-out
-shape_of-out c = writes-length c.loop-i.invariant.lines
+pub loop-length-preserved : goal.loop-length-preserved
+loop-length-preserved c =
+    one_more _ _ _ _ _ c.requires c.loop-length.length-index c.loop-length-test.true _ _ _ c.loop-length.invariant _ _ c.write_quoted-end.ensures
 
 pub returns : goal.returns
-returns c = all-spelled _ _ _ _ _ _ _ c.loop-i.i _ c.loop-i-test.false c.loop-i.invariant
+returns c = all-spelled _ _ _ _ _ _ _ c.loop-length.length-index _ c.loop-length-test.false c.loop-length.invariant

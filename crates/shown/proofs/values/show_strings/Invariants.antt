@@ -2,8 +2,8 @@
 -- theirs end. Assumes nothing.
 use mathlib.Core.Path.{◌≡◌}
 use mathlib.Core.List.{List, map}
-use Prim.Native.Nat.{ℕ, ◌+◌, ◌-◌}
-use lib.ListN.{length, take, drop}
+use Prim.Native.Nat.{ℕ, ◌+◌}
+use lib.ListN.{take, drop}
 use Rattle.words.specs.Halves.{sum}
 use Rattle.words.specs.Placed.{Writes}
 use Rattle.octets.specs.Octets.{octets}
@@ -21,8 +21,5 @@ pub record Spelled (bytes : List ℕ) (from : ℕ) (ls : List ℕ) (at : ℕ) (o
   pub place : byte ≡ from + sum (take i ls)
   pub lines : Writes at (flat value_line (take i (held bytes from ls))) out end now
 
-abbrev pub invariant-loop-i : goal.invariant-loop-i
-invariant-loop-i l = Spelled l.bytes l.from l.lengths l.at l.initial.out l.byte l.end l.i l.out
-
-abbrev pub decreases-loop-i : goal.decreases-loop-i
-decreases-loop-i l = length l.lengths - l.i
+abbrev pub invariant-loop-length : goal.invariant-loop-length
+invariant-loop-length l = Spelled l.bytes l.from l.lengths l.at l.initial.out l.byte l.end l.length-index l.out

@@ -1,14 +1,16 @@
 -- `show_values` meets its contract: after k turns the lines of the first k variables' values are written. Assumes nothing.
 use mathlib.Core.Path.{◌≡◌, sym, ap, subst, ◌∙◌}
+use mathlib.Core.Bool.{true}
 use mathlib.Core.List.{List, [], ◌∷◌, ◌++◌}
-use Prim.Native.Nat.{ℕ, ◌+◌, ◌-◌, ◌≤◌, ◌<◌}
+use Prim.Native.Nat.{ℕ, ◌+◌, ◌≤◌, ◌<◌}
 use native.Mathlib.Omega.{arith}
 use lib.ListN.{length, take, get_or}
 use Rattle.words.specs.Placed.{Room, Writes}
-use Rattle.words.proofs.Placed.{writes-length, writes-same}
+use Rattle.words.proofs.Placed.{writes-same}
 use Rattle.names.specs.Names.{unpacked}
 use Rattle.layout.specs.State.{flat}
 use Rattle.layout.specs.Memory.{name_words, decode}
+use Rattle.layout.specs.Damage.{sound}
 use Rattle.layout.proofs.Sound.{Sound, sound-of}
 use Rattle.variables.specs.Variables.{variable}
 use Rattle.order.specs.Places.{words_at}
@@ -26,12 +28,12 @@ unfolding values_of flat
 lines-each m [] = lines_none
 lines-each m (n ∷ ns) = lines-append (variable n (decode m)) (values_of (decode m) ns) ∙ ap (λ (l : List ℕ). lines m n ++ l) (lines-each m ns)
 
-module _ (m : List ℕ) (held : ℕ) (ps : List ℕ) (at : ℕ) (out : List ℕ) (G : Valuing m held ps at out) where
+module _ (m : List ℕ) (held : ℕ) (ps : List ℕ) (at : ℕ) (out : List ℕ) (G : Valuing m held ps at out) (u : sound m ≡ true) where
   abbrev ns : List (List ℕ)
   ns = listed m held ps
 
   S : Sound m
-  S = sound-of m G.whole
+  S = sound-of m u
 
   -- a turn
   module _ (k : ℕ) (h : k < held) (end : ℕ) (now : List ℕ) (W : Writes at (flat (lines m) (take k ns)) out end now)
@@ -45,7 +47,6 @@ module _ (m : List ℕ) (held : ℕ) (ps : List ℕ) (at : ℕ) (out : List ℕ)
     telling : Telling m words end now
     telling =
         record {
-          whole = G.whole;
           named = holding m S held ps G.within k h names words e w;
           room =
               subst (λ (n : List ℕ). Room end (lines m n) now) name-is
@@ -58,34 +59,22 @@ module _ (m : List ℕ) (held : ℕ) (ps : List ℕ) (at : ℕ) (out : List ℕ)
   all_told : (k : ℕ) → held ≤ k → {end : ℕ} {now : List ℕ} → Writes at (flat (lines m) (take k ns)) out end now → Writes at (lines_of m ns) out end now
   all_told k h W = writes-same (sym (lines-each m ns)) (writes-all (lines m) ns k (omega (arith, length-names_at (name_words m) held ps G.within)) W)
 
-pub names_of-names-requires : goal.names_of-names-requires
-names_of-names-requires c = (sound-of _ c.requires.whole).sizes
-
-pub loop-k-init : goal.loop-k-init
-loop-k-init c =
-    writes-none (lines c.args.pool.now) (listed c.args.pool.now c.args.count c.args.places.now)
-
-pub offset_bounds-places-k : goal.offset_bounds-places-k
-offset_bounds-places-k c = omega (arith, c.requires.within.few)
-
-pub bounds-places-k : goal.bounds-places-k
-bounds-places-k c = omega (arith, c.requires.within.few)
+pub loop-place-init : goal.loop-place-init
+loop-place-init c =
+    writes-none (lines c.args.pool.words.now) (listed c.args.pool.words.now (length c.args.places.now) c.args.places.now)
 
 pub name_at-words-requires : goal.name_at-words-requires
 name_at-words-requires c =
-    place-named _ (sound-of _ c.requires.whole) _ _ c.requires.within c.loop-k.k c.loop-k-test.true _ c.names_of-names.ensures
+    place-named _ (sound-of _ c.args.pool.tested) _ _ c.requires.within c.loop-place.place-index c.loop-place-test.true _ c.names-names.ensures
 
 pub show_variable-end-requires : goal.show_variable-end-requires
 show_variable-end-requires c =
-    telling _ _ _ _ _ c.requires _ c.loop-k-test.true _ _ c.loop-k.invariant _ _ c.names_of-names.ensures c.name_at-words.ensures
+    telling _ _ _ _ _ c.requires c.args.pool.tested _ c.loop-place-test.true _ _ c.loop-place.invariant _ _ c.names-names.ensures c.name_at-words.ensures
 
-pub loop-k-preserved : goal.loop-k-preserved
-loop-k-preserved c =
-    one_more _ _ _ _ _ c.requires _ c.loop-k-test.true _ _ c.loop-k.invariant _ _ c.names_of-names.ensures c.name_at-words.ensures c.show_variable-end.ensures
-
-pub shape_of-out : goal.shape_of-out
-shape_of-out c = writes-length c.loop-k.invariant
+pub loop-place-preserved : goal.loop-place-preserved
+loop-place-preserved c =
+    one_more _ _ _ _ _ c.requires c.args.pool.tested _ c.loop-place-test.true _ _ c.loop-place.invariant _ _ c.names-names.ensures c.name_at-words.ensures c.show_variable-end.ensures
 
 pub returns : goal.returns
 returns c =
-    all_told _ _ _ _ _ c.requires c.loop-k.k c.loop-k-test.false c.loop-k.invariant
+    all_told _ _ _ _ _ c.requires c.args.pool.tested c.loop-place.place-index c.loop-place-test.false c.loop-place.invariant

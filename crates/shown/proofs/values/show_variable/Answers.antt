@@ -3,7 +3,6 @@
 use mathlib.Core.Path.{◌≡◌, sym, ap, subst}
 use mathlib.Core.List.{List}
 use Prim.Native.Nat.{ℕ}
-use native.Mathlib.Omega.{arith}
 use lib.ListN.{replicate}
 use Rattle.plain.specs.Runs.{run}
 use Rattle.value.specs.Classes.{name_byte}
@@ -26,8 +25,6 @@ module _ (m ws : List ℕ) (at : ℕ) (out : List ℕ) (T : Telling m ws at out)
   passing : (start : Start) → Begins name m start.statement start.value start.count start.strings → Passing m name start at out
   passing start B =
       record {
-        whole = T.whole;
-        named = name-legal ws T.named room name r n;
         begins = B;
         room = subst (λ (l : List ℕ). Room at l out) (sym lines_are) T.room;
       }
@@ -35,17 +32,13 @@ module _ (m ws : List ℕ) (at : ℕ) (out : List ℕ) (T : Telling m ws at out)
   told : {s : ℕ} {o : List ℕ} → Writes at (lines m name) out s o → Writes at (lines m (unpacked ws)) out s o
   told = writes-same lines_are
 
-pub spread-requires : goal.spread-requires
-spread-requires c = omega (arith, c.requires.named.four)
-
-pub walk-start-requires : goal.walk-start-requires
-walk-start-requires c =
-    (c.requires.whole, name-legal _ c.requires.named _ _ c.spread.ensures c.run-name.ensures)
+pub invariant_of-name : goal.invariant_of-name
+invariant_of-name c = record { ruled = name-legal _ c.requires.named _ _ c.spread.ensures c.run.ensures }
 
 pub show_statements-requires : goal.show_statements-requires
 show_statements-requires c =
-    passing _ _ _ _ c.requires _ _ c.spread.ensures c.run-name.ensures _ c.walk-start.ensures
+    passing _ _ _ _ c.requires _ _ c.spread.ensures c.run.ensures _ c.walk-start.ensures
 
 pub returns : goal.returns
 returns c =
-    told _ _ _ _ c.requires _ _ c.spread.ensures c.run-name.ensures c.show_statements.ensures
+    told _ _ _ _ c.requires _ _ c.spread.ensures c.run.ensures c.show_statements.ensures
