@@ -2,4 +2,3 @@
 mod Longest
 mod Listed
 mod Reading
-mod Taken

@@ -7,9 +7,8 @@ use native.Mathlib.Nat.{zero-add}
 use native.Mathlib.Omega.{arith}
 use borrow.Author.Tests.{eq-eqb}
 use lib.ListN.{length, replicate, length-replicate}
-use Rattle.std.specs.Prelude.{if◌then◌else◌}
+use Rattle.std.specs.Prelude.{Ok, Err, if◌then◌else◌}
 use Rattle.refusal.specs.Numbers.{number_of}
-use Rattle.refusal.specs.declared.Refusal.{Refusal}
 use Rattle.refusal.specs.declared.Refusal.TheVariants.{DamagedPool, TextOpen}
 use Rattle.words.specs.Placed.{Room, Writes}
 use Rattle.words.proofs.Placed.{writes-same}
@@ -18,11 +17,10 @@ use Rattle.layout.specs.Limits.{WORDS}
 use Rattle.layout.specs.Memory.{decode, opens}
 use Rattle.layout.specs.Damage.{sized, sound}
 use Rattle.layout.proofs.Sound.{sound-of}
-use Rattle.pool.specs.Replies.{done, refusing}
+use Rattle.pool.specs.Replies.{Reply, done, refusing}
 use Rattle.pool.specs.Empty.{empty_reply, emptied, Empties}
 use Rattle.loading.specs.Load.{text_of, with, load_answer, load_reply, load_memory, Loads}
-use Rattle.pool.specs.declared.reply.Reply.{Reply}
-use Rattle.pool.specs.declared.reply.Reply.TheVariants.{Done, Refused}
+use Rattle.pool.specs.declared.reply.Refused.{Refused}
 use Rattle.pool.proofs.Emptying.{empty-sound, empty-decode, empty-shut}
 use Rattle.loading.proofs.Loaded.{load-sound, load-decode}
 use Rattle.shown.specs.Shown.{shown}
@@ -60,7 +58,7 @@ module _ (text first empty memory : List ℕ) (made reply : Reply) (n : WORDS �
       ∙ ap₂ (λ (t o : Bool). if t then (if o then refusing TextOpen else load_answer LABEL text (decode empty)) else refusing DamagedPool) empty-whole empty-closed
       ∙ ap (load_answer LABEL text) nothing
 
-  held : reply ≡ Done → decode memory ≡ loaded text
+  held : reply ≡ Ok tt → decode memory ≡ loaded text
   held d =
       ap decode L.memory
       ∙ load-decode LABEL text empty empty-whole
@@ -68,7 +66,7 @@ module _ (text first empty memory : List ℕ) (made reply : Reply) (n : WORDS �
 
   -- ---- an accepted text is shown
 
-  module _ (d : reply ≡ Done) where
+  module _ (d : reply ≡ Ok tt) where
     is-shown : shown (decode memory) ≡ listing text
     unfolding listing
     is-shown = ap shown (held d) ∙ ap (λ (r : Reply). told r (loaded text)) (sym d ∙ answered)
@@ -81,13 +79,13 @@ module _ (text first empty memory : List ℕ) (made reply : Reply) (n : WORDS �
 
   -- ---- and another is refused
 
-  module _ (q : Refusal) (line column : ℕ) (d : reply ≡ Refused q line column) (number : ℕ) (e : number ≡ number_of q) where
-    is-refused : refusal_line number line column ≡ listing text
+  module _ (q : Refused) (d : reply ≡ Err q) (number : ℕ) (e : number ≡ number_of q.refusal) where
+    is-refused : refusal_line number q.line q.column ≡ listing text
     unfolding listing
     is-refused =
-        ap (λ (n : ℕ). refusal_line n line column) e ∙ ap (λ (r : Reply). told r (loaded text)) (sym d ∙ answered)
+        ap (λ (n : ℕ). refusal_line n q.line q.column) e ∙ ap (λ (r : Reply). told r (loaded text)) (sym d ∙ answered)
 
-    pub lists-refused : (out : List ℕ) (r : ℕ) (after : List ℕ) → Writes 0 (refusal_line number line column) out r after → Lists text out r after
+    pub lists-refused : (out : List ℕ) (r : ℕ) (after : List ℕ) → Writes 0 (refusal_line number q.line q.column) out r after → Lists text out r after
     lists-refused out r after w = lists is-refused w
 
 pub room-refusal : (number line column : ℕ) (out : List ℕ) → length out ≡ SIZE → Room 0 (refusal_line number line column) out
@@ -117,8 +115,8 @@ listing-fits text = by (load_reply LABEL text empty) refl
     L = record { reply = refl; memory = refl }
 
     by : (r : Reply) → load_reply LABEL text empty ≡ r → length (listing text) ≤ SIZE
-    by Done d =
+    by (Ok u) d =
         subst (λ (l : List ℕ). length l ≤ SIZE) (is-shown text first empty memory _ _ n E L d)
         (shown-fits memory (sound-of memory (undamaged text first empty memory _ _ n E L)))
-    by (Refused q line column) d =
-        subst (λ (l : List ℕ). length l ≤ SIZE) (is-refused text first empty memory _ _ n E L q line column d (number_of q) refl) (refusal-fits (number_of q) line column)
+    by (Err q) d =
+        subst (λ (l : List ℕ). length l ≤ SIZE) (is-refused text first empty memory _ _ n E L q d (number_of q.refusal) refl) (refusal-fits (number_of q.refusal) q.line q.column)

@@ -3,14 +3,12 @@
 -- in the same order." "The listing shows a string quoted, as written, in place of bits." Refused, it "prints `refused N line L column C`, 0
 -- where there is none."
 -- Definitions only.
-use Rattle.std.specs.Prelude.{ℕ, List, [], ◌∷◌, ◌++◌}
+use Rattle.std.specs.Prelude.{ℕ, List, [], ◌∷◌, ◌++◌, Ok, Err}
 use Rattle.plain.specs.Ascii.{ascii}
 use Rattle.plain.specs.Bytes.{SPACE}
 use Rattle.layout.specs.State.{Pool}
-use Rattle.pool.specs.Replies.{reply_number, reply_line, reply_column}
+use Rattle.pool.specs.Replies.{Reply, reply_number, reply_line, reply_column}
 use Rattle.loading.specs.Load.{text_of, with, load_answer}
-use Rattle.pool.specs.declared.reply.Reply.{Reply}
-use Rattle.pool.specs.declared.reply.Reply.TheVariants.{Done, Refused}
 use Rattle.pen.specs.Pen.{phrase, entry}
 use Rattle.shown.specs.Shown.{shown}
 
@@ -42,8 +40,8 @@ abbrev pub refusal : Reply → List ℕ
 refusal r = refusal_line (reply_number r) (reply_line r) (reply_column r)
 
 abbrev pub told : Reply → Pool → List ℕ
-told Done s = shown s
-told (Refused q line column) s = refusal (Refused q line column)
+told (Ok u) s = shown s
+told (Err e) s = refusal (Err e)
 
 -- what the program prints for a text
 unfoldable pub listing : List ℕ → List ℕ

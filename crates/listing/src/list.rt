@@ -8,7 +8,6 @@ ghost use Rattle.listing.specs.Lists.{Lists};
 use loading::load::load;
 use pen::{write_byte, write_entry, write_phrase};
 use pool::empty::make_empty;
-use pool::reply::Reply;
 use refusal::number;
 use shown::show;
 
@@ -20,13 +19,17 @@ pub fn list(text: &[u8], out: &mut [u8; 96315]) -> usize
     ensures { Lists text.now out.old result out.new }
 {
     let mut memory = no_memory();
-    make_empty(&mut memory);
+    // A memory of the fixed size is never refused.
+    let _ = make_empty(&mut memory);
     let reply = load(&mut memory, LABEL, text);
     match reply {
-        Reply::Done => show(&memory, out),
-        Reply::Refused(refusal, line, column) => {
-            write_refusal(out, number(refusal) as u64, line as u64, column as u64)
-        }
+        Ok(()) => show(&memory, out),
+        Err(refused) => write_refusal(
+            out,
+            number(refused.refusal) as u64,
+            refused.line as u64,
+            refused.column as u64,
+        ),
     }
 }
 

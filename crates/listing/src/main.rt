@@ -17,7 +17,7 @@ fn main(rt: HostRuntime) -> io::Result<()> {
     let input = read(&mut rt.stdin(), &mut room);
     let mut out = listing_room();
     let end = answer(&room, input, &mut out);
-    print::bytes(&rt, &out[..end])
+    rt.write_all(&out[..end])
 }
 
 // Room for one byte more than the longest text has, so that a longer input is refused and never cut.

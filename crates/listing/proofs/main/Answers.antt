@@ -7,5 +7,5 @@ use Rattle.listing.proofs.main.Goals as goal
 pub slice_bounds-out-end : goal.slice_bounds-out-end
 slice_bounds-out-end c = within-output _ _ c.answer-end.ensures c.listing_room-out.ensures
 
-pub slice_bounds-bytes-end : goal.slice_bounds-bytes-end
-slice_bounds-bytes-end c = sym (length-take-le _ _ (within-output _ _ c.answer-end.ensures c.listing_room-out.ensures))
+pub slice_bounds-write_all-end : goal.slice_bounds-write_all-end
+slice_bounds-write_all-end c = sym (length-take-le _ _ (within-output _ _ c.answer-end.ensures c.listing_room-out.ensures))

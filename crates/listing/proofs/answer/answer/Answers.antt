@@ -2,8 +2,8 @@
 use Rattle.listing.proofs.Reading.{prints-listing, prints-unreadable}
 use Rattle.listing.proofs.answer.answer.Goals as goal
 
-pub returns-in-Bytes : goal.returns-in-Bytes
-returns-in-Bytes c = prints-listing _ _ _ c.in-Bytes.is c.front.ensures c.list.ensures
+pub returns-in-Some : goal.returns-in-Some
+returns-in-Some c = prints-listing _ _ _ c.in-Some.is c.first.ensures c.list.ensures
 
-pub returns-in-Unreadable : goal.returns-in-Unreadable
-returns-in-Unreadable c = prints-unreadable _ _ c.in-Unreadable.is c.append.ensures
+pub returns-in-None : goal.returns-in-None
+returns-in-None c = prints-unreadable _ _ c.in-None.is c.append.ensures

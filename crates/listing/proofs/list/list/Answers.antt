@@ -5,15 +5,15 @@ use Rattle.listing.proofs.list.list.Goals as goal
 
 pub show-requires : goal.show-requires
 show-requires c =
-    showing _ _ _ _ _ _ c.no_memory-memory.ensures c.make_empty.ensures c.load-reply.ensures c.in-Done.is _ (omega arith)
+    showing _ _ _ _ _ _ c.no_memory-memory.ensures c.make_empty.ensures c.load-reply.ensures c.in-Ok.is _ (omega arith)
 
 pub write_refusal-requires : goal.write_refusal-requires
 write_refusal-requires c = room-refusal _ _ _ _ (omega arith)
 
-pub returns-in-Done : goal.returns-in-Done
-returns-in-Done c =
-    lists-shown _ _ _ _ _ _ c.no_memory-memory.ensures c.make_empty.ensures c.load-reply.ensures c.in-Done.is _ _ _ c.show.ensures
+pub returns-in-Ok : goal.returns-in-Ok
+returns-in-Ok c =
+    lists-shown _ _ _ _ _ _ c.no_memory-memory.ensures c.make_empty.ensures c.load-reply.ensures c.in-Ok.is _ _ _ c.show.ensures
 
-pub returns-in-Refused : goal.returns-in-Refused
-returns-in-Refused c =
-    lists-refused _ _ _ _ _ _ c.no_memory-memory.ensures c.make_empty.ensures c.load-reply.ensures _ _ _ c.in-Refused.is _ c.number.ensures _ _ _ c.write_refusal.ensures
+pub returns-in-Err : goal.returns-in-Err
+returns-in-Err c =
+    lists-refused _ _ _ _ _ _ c.no_memory-memory.ensures c.make_empty.ensures c.load-reply.ensures _ c.in-Err.is _ c.number.ensures _ _ _ c.write_refusal.ensures
