@@ -4,7 +4,7 @@
 
 pub mod numbers;
 
-ghost use Rattle.std.specs.Prelude.{◌≡◌, ◌<◌, length, take, IfOk};
+ghost use Rattle.std.specs.Prelude.{◌≡◌, ◌-◌, ◌<◌, ◌≤◌, length, take, drop, IfOk};
 ghost use Rattle.std.specs.Io.{ReadsAtMost};
 ghost use Rattle.std.specs.Io.KnownBytes.{Consumes, IsAtEnd};
 
@@ -17,7 +17,8 @@ pub fn room() -> [u8; 400000]
     [0; 400000]
 }
 
-// Reads until the room is full or the input ends; how many bytes came, from the room's start on.
+// Reads until the room is full or the input ends; how many bytes came, from the room's start on. A `while`, for the place goes on by what
+// a read brought.
 pub fn read<R: Read>(input: &mut R, room: &mut [u8]) -> io::Result<usize>
     ensures count { ReadsAtMost result room.new }
     ensures bytes { IfOk result (λ n. Consumes (R.remaining input.old) (R.remaining input.new) (take n room.new)) }
@@ -40,46 +41,40 @@ pub fn before(bytes: &[u8], byte: u8) -> &[u8] {
 }
 
 // What stands after the first such byte; nothing, if there is none.
-pub fn after(bytes: &[u8], byte: u8) -> &[u8] {
-    let rest = past(bytes, find(bytes, byte));
-    past(rest, 1)
+pub fn after(bytes: &[u8], byte: u8) -> &[u8]
+    ensures { length result.now ≤ length bytes.now - 1 }
+{
+    after_counted(bytes, find(bytes, byte))
 }
 
 // The first `count` bytes; all, if there are no more.
-pub fn first(bytes: &[u8], count: usize) -> &[u8] {
-    if count < bytes.len() {
-        return &bytes[0..count];
-    }
-    bytes
+pub fn first(bytes: &[u8], count: usize) -> &[u8]
+    ensures { result.now ≡ take count bytes.now }
+{
+    bytes.get(..count).unwrap_or(bytes)
 }
 
 // What stands after the first `count` bytes; nothing, if there are no more.
-pub fn past(bytes: &[u8], count: usize) -> &[u8] {
-    if count < bytes.len() {
-        return &bytes[count..];
-    }
-    &bytes[..0]
+pub fn past(bytes: &[u8], count: usize) -> &[u8]
+    ensures { result.now ≡ drop count bytes.now }
+{
+    bytes.get(count..).unwrap_or(&[])
 }
 
 // Whether `count` bytes are there and the byte after them is LF.
 pub fn counted(bytes: &[u8], count: usize) -> bool {
-    count < bytes.len() && bytes[count] == b'\n'
+    past(bytes, count).starts_with(b"\n")
 }
 
-// What stands after `count` bytes and their LF.
-pub fn after_counted(bytes: &[u8], count: usize) -> &[u8] {
-    let rest = past(bytes, count);
-    past(rest, 1)
+// What stands after `count` bytes and the byte after them, as their LF.
+pub fn after_counted(bytes: &[u8], count: usize) -> &[u8]
+    ensures value { result.now ≡ drop 1 (drop count bytes.now) }
+    ensures shorter { length result.now ≤ length bytes.now - 1 }
+{
+    past(past(bytes, count), 1)
 }
 
 // The place of the first such byte; the end, if there is none.
 fn find(bytes: &[u8], byte: u8) -> usize {
-    let mut i = 0;
-    while i < bytes.len() {
-        if bytes[i] == byte {
-            return i;
-        }
-        i += 1;
-    }
-    i
+    bytes.iter().position(|b| *b == byte).unwrap_or(bytes.len())
 }

@@ -1,62 +1,47 @@
 // Numbers of an input.
 ghost use Rattle.std.specs.Prelude.{◌≤◌};
 
-// What a field is: a number, or none that fits 64 bits with another digit.
-#[derive(Clone, Copy)]
-pub enum Number {
-    Of(u64),
-    Broken,
-}
-
-// A number in decimal.
-pub fn decimal(field: &[u8]) -> Number {
+// A number in decimal; none, if the field is no number that fits 64 bits with another digit.
+pub fn decimal(field: &[u8]) -> Option<u64> {
     in_base(field, 10)
 }
 
 // A number in decimal; 0, if the field is none.
 pub fn natural(field: &[u8]) -> u64 {
-    let read = decimal(field);
-    match read {
-        Number::Of(n) => n,
-        Number::Broken => 0,
-    }
+    decimal(field).unwrap_or(0)
 }
 
-// A number in hexadecimal, in upper case.
-pub fn hexadecimal(field: &[u8]) -> Number {
+// A number in hexadecimal, in upper case; none, as in decimal.
+pub fn hexadecimal(field: &[u8]) -> Option<u64> {
     in_base(field, 16)
 }
 
 // The largest number that takes another digit in every base.
 const LARGEST: u64 = 1152921504606846975;
 
-fn in_base(field: &[u8], base: u64) -> Number
+// The library's `from_str_radix` also takes a sign, lower case and larger numbers.
+fn in_base(field: &[u8], base: u64) -> Option<u64>
     requires { base ≤ 16 }
 {
-    if field.len() == 0 {
-        return Number::Broken;
+    if field.is_empty() {
+        return None;
     }
     let mut n = 0;
-    let mut i = 0;
-    while i < field.len() {
-        let d = digit(field[i]);
-        if d >= base {
-            return Number::Broken;
-        }
-        if n > LARGEST {
-            return Number::Broken;
+    for byte in field {
+        let d = digit(*byte)?;
+        if d >= base || n > LARGEST {
+            return None;
         }
         n = n * base + d;
-        i += 1;
     }
-    Number::Of(n)
+    Some(n)
 }
 
-// What a byte is as a digit; 16, if it is none.
-fn digit(byte: u8) -> u64 {
+// What a byte is as a digit of base 16.
+fn digit(byte: u8) -> Option<u64> {
     match byte {
-        b'0'..=b'9' => (byte - b'0') as u64,
-        b'A'..=b'F' => (byte - b'A') as u64 + 10,
-        _ => 16,
+        b'0'..=b'9' => Some((byte - b'0') as u64),
+        b'A'..=b'F' => Some((byte - b'A') as u64 + 10),
+        _ => None,
     }
 }
