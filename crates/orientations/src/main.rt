@@ -11,7 +11,7 @@ const CODES: [u32; 21] = [
     4294967295,
 ];
 
-const EPOCHS: [f64; 29] = [
+const EPOCHS: [f64; 32] = [
     0.0,
     -0.0,
     1.0,
@@ -41,47 +41,19 @@ const EPOCHS: [f64; 29] = [
     -157788000000.00003,
     1e300,
     1.7976931348623157e308,
+    f64::NAN,
+    f64::INFINITY,
+    f64::NEG_INFINITY,
 ];
 
 fn main(rt: HostRuntime) -> io::Result<()> {
-    orientations(&rt, &CODES, &EPOCHS)?;
-    radii(&rt, &CODES)
-}
-
-// A line for every code and epoch.
-fn orientations(rt: &impl Print, codes: &[u32], epochs: &[f64]) -> io::Result<()> {
-    let mut i = 0;
-    while i < codes.len() {
-        body(rt, codes[i], epochs)?;
-        i += 1;
+    for code in CODES {
+        for epoch in EPOCHS {
+            answers::orientation(&rt, code, epoch)?;
+        }
     }
-    Ok(())
-}
-
-// A line for every epoch, for NaN and for both infinities, which are no constants.
-fn body(rt: &impl Print, code: u32, epochs: &[f64]) -> io::Result<()> {
-    finite(rt, code, epochs)?;
-    answers::orientation(rt, code, 0.0 / 0.0)?;
-    answers::orientation(rt, code, 1.0 / 0.0)?;
-    answers::orientation(rt, code, -1.0 / 0.0)
-}
-
-// A line for every epoch.
-fn finite(rt: &impl Print, code: u32, epochs: &[f64]) -> io::Result<()> {
-    let mut i = 0;
-    while i < epochs.len() {
-        answers::orientation(rt, code, epochs[i])?;
-        i += 1;
-    }
-    Ok(())
-}
-
-// A line for every code.
-fn radii(rt: &impl Print, codes: &[u32]) -> io::Result<()> {
-    let mut i = 0;
-    while i < codes.len() {
-        answers::radii(rt, codes[i])?;
-        i += 1;
+    for code in CODES {
+        answers::radii(&rt, code)?;
     }
     Ok(())
 }
