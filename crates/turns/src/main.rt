@@ -8,7 +8,7 @@ use std::io;
 
 const CODES: [u32; 4] = [10, 399, 899, 301];
 
-const EPOCHS: [f64; 7] = [
+const EPOCHS: [f64; 8] = [
     0.0,
     43200.0,
     -86164.0,
@@ -16,6 +16,7 @@ const EPOCHS: [f64; 7] = [
     -98765432109.875,
     157788000000.0,
     157788000000.00003,
+    f64::NAN,
 ];
 
 const RINGS: [u32; 12] = [2, 3, 35, 39, 200, 360, 4095, 4096, 0, 1, 4097, 4294967295];
@@ -23,77 +24,21 @@ const RINGS: [u32; 12] = [2, 3, 35, 39, 200, 360, 4095, 4096, 0, 1, 4097, 429496
 const PRESENTS: [u32; 7] = [0, 1, 19, 180, 2048, 4095, 4294967295];
 
 fn main(rt: HostRuntime) -> io::Result<()> {
-    bodies(&rt, &CODES, &EPOCHS, &RINGS, &PRESENTS)
-}
-
-// The lines of every code.
-fn bodies(
-    rt: &impl Print,
-    codes: &[u32],
-    epochs: &[f64],
-    sizes: &[u32],
-    presents: &[u32],
-) -> io::Result<()> {
-    let mut i = 0;
-    while i < codes.len() {
-        body(rt, codes[i], epochs, sizes, presents)?;
-        i += 1;
+    for code in CODES {
+        for epoch in EPOCHS {
+            rings(&rt, code, epoch)?;
+        }
     }
     Ok(())
 }
 
-// The lines of every epoch and of NaN, which is no constant.
-fn body(
-    rt: &impl Print,
-    code: u32,
-    epochs: &[f64],
-    sizes: &[u32],
-    presents: &[u32],
-) -> io::Result<()> {
-    finite(rt, code, epochs, sizes, presents)?;
-    rings(rt, code, 0.0 / 0.0, sizes, presents)
-}
-
-// The lines of every epoch.
-fn finite(
-    rt: &impl Print,
-    code: u32,
-    epochs: &[f64],
-    sizes: &[u32],
-    presents: &[u32],
-) -> io::Result<()> {
-    let mut i = 0;
-    while i < epochs.len() {
-        rings(rt, code, epochs[i], sizes, presents)?;
-        i += 1;
-    }
-    Ok(())
-}
-
-// The lines of every ring.
-fn rings(
-    rt: &impl Print,
-    code: u32,
-    epoch: f64,
-    sizes: &[u32],
-    presents: &[u32],
-) -> io::Result<()> {
-    let mut i = 0;
-    while i < sizes.len() {
-        let ring = sizes[i];
+// The lines of every ring: its position, and the move from every present position.
+fn rings(rt: &impl Print, code: u32, epoch: f64) -> io::Result<()> {
+    for ring in RINGS {
         answers::position(rt, code, epoch, ring)?;
-        moves(rt, code, epoch, ring, presents)?;
-        i += 1;
-    }
-    Ok(())
-}
-
-// A line for the move from every present position.
-fn moves(rt: &impl Print, code: u32, epoch: f64, ring: u32, presents: &[u32]) -> io::Result<()> {
-    let mut i = 0;
-    while i < presents.len() {
-        answers::step(rt, code, epoch, ring, presents[i])?;
-        i += 1;
+        for present in PRESENTS {
+            answers::step(rt, code, epoch, ring, present)?;
+        }
     }
     Ok(())
 }
