@@ -4,43 +4,19 @@
 #![tactic(auto)]
 
 mod answers;
+mod stream;
 
-use script::numbers;
-use script::numbers::Number;
 use std::io;
+use stream::Texts;
 
 fn main(rt: HostRuntime) -> io::Result<()> {
     let mut room = script::room();
     let count = script::read(&mut rt.stdin(), &mut room)?;
-    each(&rt, &room[..count])
-}
-
-// An answer to every text, up to the end or a broken one.
-fn each(rt: &impl Print, stream: &[u8]) -> io::Result<()> {
-    let mut place = 1;
-    let mut rest = stream;
-    while rest.len() > 0 {
-        let next = one(rt, place, rest)?;
-        if next.len() >= rest.len() {
-            return Ok(());
-        }
-        rest = next;
-        place += 1;
+    let texts = Texts {
+        rest: &room[..count],
+    };
+    for (place, text) in (1u64..).zip(texts) {
+        answers::text(&rt, place, text)?;
     }
     Ok(())
-}
-
-// An answer to the first text, and the rest of the stream; nothing, if the text is broken.
-fn one<'a>(rt: &impl Print, place: u64, stream: &'a [u8]) -> io::Result<&'a [u8]> {
-    let field = numbers::decimal(script::before(stream, b'\n'));
-    let Number::Of(length) = field else {
-        return Ok(&stream[..0]);
-    };
-    let rest = script::after(stream, b'\n');
-    let count = length as usize;
-    if !script::counted(rest, count) {
-        return Ok(&stream[..0]);
-    }
-    answers::text(rt, place, script::first(rest, count))?;
-    Ok(script::after_counted(rest, count))
 }
