@@ -3,6 +3,7 @@
 // `stdin` and `stdout` are made by rust/twin, an implementation of its own.
 #![tactic(auto)]
 
+mod call;
 mod calls;
 mod changes;
 mod memory;
@@ -10,35 +11,29 @@ mod parts;
 mod queries;
 mod replies;
 
+use call::{Call, Calls};
+use calls::answer;
 use std::io;
 
 // What every word holds at the start.
 const START: u64 = 0xA5A5A5A5A5A5A5A5;
 
-// The words of a pool.
+// The words of a pool: of the memory calls get as many first ones, or as many as the script says.
 const WORDS: usize = 6707;
 
 fn main(rt: HostRuntime) -> io::Result<()> {
     let mut room = script::room();
     let count = script::read(&mut rt.stdin(), &mut room)?;
     let mut words = [START; 6756];
-    each(&rt, &room[..count], &mut words)
-}
-
-// The answer to every call, up to the end or a broken one. Calls get the first `size` words of the memory.
-fn each(rt: &impl Print, script: &[u8], words: &mut [u64]) -> io::Result<()> {
     let mut size = WORDS;
-    let mut rest = script;
-    while rest.len() > 0 {
-        let line = script::before(rest, b'\n');
-        let text = script::after(rest, b'\n');
-        size = memory::resized(line, size);
-        calls::answer(rt, line, text, words, size)?;
-        let next = calls::after(line, text);
-        if next.len() >= rest.len() {
-            return Ok(());
+    let calls = Calls {
+        rest: &room[..count],
+    };
+    for call in calls {
+        if let Call::Size { words } = call {
+            size = words;
         }
-        rest = next;
+        answer(&rt, call, &mut words, size)?;
     }
     Ok(())
 }

@@ -1,70 +1,39 @@
-// The calls on a text in parts: open, feed, close, drop.
-ghost use Rattle.std.specs.Prelude.{◌≤◌, length};
-
-use super::changes::label_of;
-use super::replies;
-use pool::reply::Reply;
+// The calls on a text in parts: open, feed, close, drop. Each answers whether it changed the pool.
+use super::replies::{column, line, number};
+use pool::reply::Refused;
 use refusal::Refusal;
-use script::numbers;
 use std::io;
 
-pub fn open(rt: &impl Print, fields: &[u8], words: &mut [u64], size: usize) -> io::Result<()>
-    requires { size ≤ length words.old }
-{
-    let label = label_of(fields);
-    let reply = intake::begin::open_text(&mut words[0..size], label);
-    print::bytes(rt, b"open")?;
-    print::field(rt, label as u64)?;
-    print::field(rt, replies::number(reply))?;
-    replies::end(rt, reply, words)
+pub fn open(rt: &impl Print, words: &mut [u64], label: u32) -> io::Result<bool> {
+    let reply = intake::begin::open_text(words, label);
+    println!(rt; "open {label} {}", number(reply))?;
+    Ok(reply.is_ok())
 }
 
-pub fn feed(
-    rt: &impl Print,
-    fields: &[u8],
-    text: &[u8],
-    words: &mut [u64],
-    size: usize,
-) -> io::Result<()>
-    requires { size ≤ length words.old }
-{
-    let count = numbers::natural(fields) as usize;
-    let reply = intake::parts::feed_text(&mut words[0..size], script::first(text, count));
-    print::bytes(rt, b"feed")?;
-    print::field(rt, count as u64)?;
-    print::field(rt, replies::number(reply))?;
-    replies::end(rt, reply, words)
+// The count that is told is the script's, also where fewer bytes are left.
+pub fn feed(rt: &impl Print, words: &mut [u64], count: usize, part: &[u8]) -> io::Result<bool> {
+    let reply = intake::parts::feed_text(words, part);
+    println!(rt; "feed {count} {}", number(reply))?;
+    Ok(reply.is_ok())
 }
 
-pub fn close(rt: &impl Print, words: &mut [u64], size: usize) -> io::Result<()>
-    requires { size ≤ length words.old }
-{
-    let reply = closing::ending::close_text(&mut words[0..size]);
-    print::bytes(rt, b"close")?;
-    print::field(rt, replies::number(reply))?;
-    print::field(rt, replies::line(reply))?;
-    print::field(rt, replies::column(reply))?;
-    print::end_line(rt)?;
-    if ends(reply) {
-        replies::tell(rt, words)?;
-    }
-    Ok(())
+pub fn close(rt: &impl Print, words: &mut [u64]) -> io::Result<bool> {
+    let reply = closing::ending::close_text(words);
+    println!(rt; "close {} {} {}", number(reply), line(reply), column(reply))?;
+    Ok(ends(reply))
 }
 
-pub fn drop(rt: &impl Print, words: &mut [u64], size: usize) -> io::Result<()>
-    requires { size ≤ length words.old }
-{
-    let reply = intake::parts::drop_text(&mut words[0..size]);
-    print::bytes(rt, b"drop")?;
-    print::field(rt, replies::number(reply))?;
-    replies::end(rt, reply, words)
+pub fn drop(rt: &impl Print, words: &mut [u64]) -> io::Result<bool> {
+    let reply = intake::parts::drop_text(words);
+    println!(rt; "drop {}", number(reply))?;
+    Ok(reply.is_ok())
 }
 
 // Whether a closing has changed the pool: one that refuses the text has too, since the text is open no more.
-fn ends(reply: Reply) -> bool {
+fn ends(reply: Result<(), Refused>) -> bool {
     match reply {
-        Reply::Done => true,
-        Reply::Refused(refusal, _, _) => of_text(refusal),
+        Ok(()) => true,
+        Err(refused) => of_text(refused.refusal),
     }
 }
 

@@ -1,156 +1,76 @@
 // The calls that only ask: a line of answer.
-ghost use Rattle.std.specs.Prelude.{◌≤◌, length};
-
-use pool::reply::{Counts, Fetched};
-use refusal::Refusal;
-use script::numbers;
+use print::{Bits, Hex};
 use std::io;
 
-// The buffer's length stands before the name.
-pub fn fetch(rt: &impl Print, fields: &[u8], words: &[u64], size: usize) -> io::Result<()>
-    requires { size ≤ length words.now }
-{
+// The values of a variable, into a buffer of `room` places; nothing, if the history's has not so many.
+pub fn fetch(rt: &impl Print, words: &[u64], room: usize, name: &[u8]) -> io::Result<()> {
     let mut buffer = [0.0; 3072];
-    let room = numbers::natural(script::before(fields, b' ')) as usize;
-    if room <= 3072 {
-        fetch_into(
-            rt,
-            &words[0..size],
-            script::after(fields, b' '),
-            &mut buffer[0..room],
-        )?;
+    if room > 3072 {
+        return Ok(());
     }
-    Ok(())
-}
-
-// A string by its place. The buffer's length stands first, then the place, then the name.
-pub fn quoted(rt: &impl Print, fields: &[u8], words: &[u64], size: usize) -> io::Result<()>
-    requires { size ≤ length words.now }
-{
-    let mut buffer: [u8; 64] = [0; 64];
-    let room = numbers::natural(script::before(fields, b' ')) as usize;
-    let rest = script::after(fields, b' ');
-    let place = numbers::natural(script::before(rest, b' ')) as usize;
-    if room <= 64 {
-        quoted_into(
-            rt,
-            &words[0..size],
-            script::after(rest, b' '),
-            place,
-            &mut buffer[0..room],
-        )?;
-    }
-    Ok(())
-}
-
-pub fn totals(rt: &impl Print, words: &[u64], size: usize) -> io::Result<()>
-    requires { size ≤ length words.now }
-{
-    let answer = pool::totals::totals(&words[0..size]);
-    print::bytes(rt, b"totals")?;
+    let lent = &mut buffer[..room];
+    let answer = pool::fetch::fetch(words, name, lent);
+    rt.write_all(b"fetch ")?;
+    rt.write_all(name)?;
     match answer {
-        Counts::Held(texts, statements, values) => {
-            counts(rt, 0, texts as u64, statements as u64, values as u64)?;
+        Ok(count) => {
+            print!(rt; " 0 {count}")?;
+            values(rt, lent.get(..count).unwrap_or(&[]))?;
         }
-        Counts::Refused(refusal) => counts(rt, refusal::number(refusal) as u64, 0, 0, 0)?,
+        Err(refusal) => print!(rt; " {} 0", refusal::number(refusal))?,
     }
-    print::end_line(rt)
-}
-
-fn fetch_into(rt: &impl Print, words: &[u64], name: &[u8], buffer: &mut [f64]) -> io::Result<()> {
-    let answer = pool::fetch::fetch(words, name, buffer);
-    print::bytes(rt, b"fetch ")?;
-    print::bytes(rt, name)?;
-    match answer {
-        Fetched::Count(count) => fetched(rt, count, buffer)?,
-        Fetched::Refused(refusal) => refused(rt, refusal)?,
-    }
-    print::end_line(rt)
-}
-
-fn quoted_into(
-    rt: &impl Print,
-    words: &[u64],
-    name: &[u8],
-    place: usize,
-    buffer: &mut [u8],
-) -> io::Result<()> {
-    let answer = pool::fetch_string::fetch_string(words, name, place, buffer);
-    print::bytes(rt, b"quoted ")?;
-    print::bytes(rt, name)?;
-    print::field(rt, place as u64)?;
-    match answer {
-        Fetched::Count(count) => string(rt, count, buffer)?,
-        Fetched::Refused(refusal) => refused(rt, refusal)?,
-    }
-    print::end_line(rt)
-}
-
-fn fetched(rt: &impl Print, count: usize, buffer: &[f64]) -> io::Result<()> {
-    print::field(rt, 0)?;
-    print::field(rt, count as u64)?;
-    if count <= buffer.len() {
-        values(rt, &buffer[0..count])?;
-    }
-    Ok(())
-}
-
-// A string of no bytes has no field for them.
-fn string(rt: &impl Print, count: usize, buffer: &[u8]) -> io::Result<()> {
-    print::field(rt, 0)?;
-    print::field(rt, count as u64)?;
-    if count > 0 && count <= buffer.len() {
-        print::bytes(rt, b" ")?;
-        hexadecimal(rt, &buffer[0..count])?;
-    }
-    Ok(())
-}
-
-fn refused(rt: &impl Print, refusal: Refusal) -> io::Result<()> {
-    print::field(rt, refusal::number(refusal) as u64)?;
-    print::field(rt, 0)
+    println!(rt; "")
 }
 
 fn values(rt: &impl Print, values: &[f64]) -> io::Result<()> {
-    let mut i = 0;
-    while i < values.len() {
-        print::double_field(rt, values[i])?;
-        i += 1;
+    for value in values {
+        print!(rt; " {}", Bits(*value))?;
     }
     Ok(())
 }
 
-// Bytes as two digits each.
-fn hexadecimal(rt: &impl Print, bytes: &[u8]) -> io::Result<()> {
-    let mut i = 0;
-    while i < bytes.len() {
-        byte(rt, bytes[i])?;
-        i += 1;
-    }
-    Ok(())
-}
-
-fn byte(rt: &impl Print, n: u8) -> io::Result<()> {
-    print::bytes(rt, &[digit(n / 16), digit(n % 16)])
-}
-
-// The digit of a number below 16.
-fn digit(n: u8) -> u8 {
-    if n < 10 {
-        return b'0' + n;
-    }
-    b'A' + (n - 10) % 6
-}
-
-fn counts(
+// A string by its place, into a buffer of `room` bytes; nothing, if the history's has not so many.
+pub fn quoted(
     rt: &impl Print,
-    number: u64,
-    texts: u64,
-    statements: u64,
-    values: u64,
+    words: &[u64],
+    room: usize,
+    place: usize,
+    name: &[u8],
 ) -> io::Result<()> {
-    print::field(rt, number)?;
-    print::field(rt, texts)?;
-    print::field(rt, statements)?;
-    print::field(rt, values)
+    let mut buffer = [0; 64];
+    if room > 64 {
+        return Ok(());
+    }
+    let lent = &mut buffer[..room];
+    let answer = pool::fetch_string::fetch_string(words, name, place, lent);
+    rt.write_all(b"quoted ")?;
+    rt.write_all(name)?;
+    match answer {
+        Ok(count) => {
+            print!(rt; " {place} 0 {count}")?;
+            string(rt, lent.get(..count).unwrap_or(&[]))?;
+        }
+        Err(refusal) => print!(rt; " {place} {} 0", refusal::number(refusal))?,
+    }
+    println!(rt; "")
+}
+
+// A string of no bytes has no field for them.
+fn string(rt: &impl Print, bytes: &[u8]) -> io::Result<()> {
+    if bytes.is_empty() {
+        return Ok(());
+    }
+    print!(rt; " {}", Hex(bytes))
+}
+
+pub fn totals(rt: &impl Print, words: &[u64]) -> io::Result<()> {
+    match pool::totals::totals(words) {
+        Ok(held) => {
+            println!(rt;
+                "totals 0 {} {} {}",
+                held.texts, held.statements, held.values
+            )
+        }
+        Err(refusal) => { println!(rt; "totals {} 0 0 0", refusal::number(refusal)) }
+    }
 }
