@@ -9,19 +9,8 @@ use std::io;
 fn main(rt: HostRuntime) -> io::Result<()> {
     let mut room = script::room();
     let count = script::read(&mut rt.stdin(), &mut room)?;
-    each(&rt, &room[..count])
-}
-
-// The lines of every code, up to the end.
-fn each(rt: &impl Print, codes: &[u8]) -> io::Result<()> {
-    let mut rest = codes;
-    while rest.len() > 0 {
-        answers::answer(rt, script::before(rest, b'\n'))?;
-        let next = script::after(rest, b'\n');
-        if next.len() >= rest.len() {
-            return Ok(());
-        }
-        rest = next;
+    for line in room[..count].split(|byte| *byte == b'\n') {
+        answers::answer(&rt, line)?;
     }
     Ok(())
 }
