@@ -9,7 +9,7 @@ use native.Mathlib.Omega.{arith}
 use borrow.Author.Tests.{ltb-false}
 use lib.Dec.{eqb, ltb, leb}
 use lib.ListN.{length, get_or, length-append, length-map}
-use Rattle.std.specs.Prelude.{if◌then◌else◌}
+use Rattle.std.specs.Prelude.{Ok, Err, if◌then◌else◌}
 use Rattle.plain.specs.Bytes.{LF, CR, within}
 use Rattle.text.specs.Lines.{lines, before, at_lf}
 use Rattle.value.specs.Strings.{STRING}
@@ -29,11 +29,8 @@ use Rattle.refusal.specs.declared.Refusal.{Refusal}
 use Rattle.refusal.specs.declared.Refusal.TheVariants.{LabelHeld, TextTooLong, NoRoom, NotHeld, DamagedPool, TextOpen}
 use Rattle.pool.specs.Empty.{empty_reply, clear_reply}
 use Rattle.pool.specs.Remove.{remove_reply}
-use Rattle.pool.specs.Replies.{reply_line, reply_column, refusing, fetched_count, counts_texts, counts_statements, counts_values}
+use Rattle.pool.specs.Replies.{Reply, reply_line, reply_column, refusing, fetched_count, counts_texts, counts_statements, counts_values}
 use Rattle.pool.specs.Totals.{counts, totals_reply}
-use Rattle.pool.specs.declared.reply.Reply.{Reply}
-use Rattle.pool.specs.declared.reply.Reply.TheVariants.{Done}
-use Rattle.pool.specs.declared.reply.Counts.TheVariants as C
 use Rattle.variables.specs.Variables.{Datum, number, string, each, has, any, assigns, since, gives, variable, present, all_numbers, all_strings}
 use Rattle.pool.specs.Held.{held}
 use Rattle.loading.specs.Load.{admitted, load_answer, load_reply, with, text_of}
@@ -41,8 +38,7 @@ use Rattle.variables.specs.Found.{found_in}
 use Rattle.variables.specs.Spelled.{letters, string_of, spelled_in}
 use Rattle.pool.specs.Fetch.{fetched, fetch_reply}
 use Rattle.pool.specs.FetchString.{string_reply}
-use Rattle.pool.specs.declared.reply.Fetched.TheVariants as F
-use Rattle.variables.specs.declared.variable.Found.TheVariants as W
+use Rattle.variables.specs.declared.variable.FindError.TheVariants as W
 use Rattle.feeding.specs.Parts.{MOST}
 use Rattle.opening.specs.Closing.{close_answer}
 use Rattle.intake.specs.Opened.{state_in}
@@ -71,7 +67,7 @@ record Few (reply : Reply) : Type 0 where
   line : reply_line reply ≤ MOST + 1
   column : reply_column reply ≤ MOST + 1
 
-few-done : Few Done
+few-done : Few (Ok tt)
 few-done = record { line = omega arith; column = omega arith }
 
 few-refusing : (q : Refusal) → Few (refusing q)
@@ -144,7 +140,7 @@ unfolding fetch_reply found_in
 count-few name room m = by (sound m) (present name (decode m)) (all_numbers (variable name (decode m))) (leb (length (variable name (decode m))) room) refl
   where
     by : (x y n z : Bool) → sound m ≡ x
-        → fetched_count (if x then fetched (if y then (if n then (if z then W.Count (length (variable name (decode m))) else W.TooMany) else W.Mixed) else W.Absent) else F.Refused DamagedPool) ≤ VALUES
+        → fetched_count (if x then fetched (if y then (if n then (if z then Ok (length (variable name (decode m))) else (Err W.TooMany)) else (Err W.Mixed)) else (Err W.Absent)) else Err DamagedPool) ≤ VALUES
     by true true true true e = omega (arith, variable-few name (decode m), (decode-fits m (sound-of m e)).values)
     by true true true false e = omega arith
     by true true false z e = omega arith
@@ -191,7 +187,7 @@ string-few name place room m =
     by (sound m) (within 1 (length (variable name (decode m))) place) (all_strings (variable name (decode m))) (leb (length (string_of place (variable name (decode m)))) room) refl
   where
     by : (x y n z : Bool) → sound m ≡ x
-        → fetched_count (if x then fetched (if y then (if n then (if z then W.Count (length (string_of place (variable name (decode m)))) else W.TooMany) else W.Mixed) else W.Absent) else F.Refused DamagedPool) ≤ STRING
+        → fetched_count (if x then fetched (if y then (if n then (if z then Ok (length (string_of place (variable name (decode m)))) else (Err W.TooMany)) else (Err W.Mixed)) else (Err W.Absent)) else Err DamagedPool) ≤ STRING
     by true true true true e =
         let p = program (decode m) in
         short-at (variable name (decode m)) (place - 1) (short-gives name (since name p) (fair-since name p (decode-legal m (sound-of m e)).statements))
@@ -207,9 +203,9 @@ unfolding totals_reply
 totals-few m = by (sound m) refl
   where
     by : (x : Bool) → sound m ≡ x
-        → (counts_texts (if x then counts (decode m) else C.Refused DamagedPool) ≤ TEXTS)
-        × (counts_statements (if x then counts (decode m) else C.Refused DamagedPool) ≤ STATEMENTS)
-        × (counts_values (if x then counts (decode m) else C.Refused DamagedPool) ≤ VALUES)
+        → (counts_texts (if x then counts (decode m) else Err DamagedPool) ≤ TEXTS)
+        × (counts_statements (if x then counts (decode m) else Err DamagedPool) ≤ STATEMENTS)
+        × (counts_values (if x then counts (decode m) else Err DamagedPool) ≤ VALUES)
     by true e = let f = decode-fits m (sound-of m e) in (f.texts, f.statements, f.values)
     by false e = (omega arith, omega arith, omega arith)
 
@@ -230,7 +226,7 @@ pub loses-nothing : LosesNothing
 unfolding empty_reply clear_reply remove_reply open_reply feed_reply
 loses-nothing =
     record {
-      make_empty = λ m. no_line (sized m) Done few-done;
+      make_empty = λ m. no_line (sized m) (Ok tt) few-done;
       load = λ label bytes m. whole-reply (load_reply label bytes m) (few-load label bytes m);
       open_text = λ label m. opened (sound m) (opens m) (held label (decode m));
       feed_or_drop = λ m. unless (sound m) (opens m) (few-refusing NotHeld) few-done;
@@ -253,12 +249,12 @@ loses-nothing =
     unless {p} {q} x true f g = no_line x q g
     unless {p} {q} x false f g = no_line x p f
 
-    opened : (x o y : Bool) → WholeReply (if x then (if o then refusing TextOpen else (if y then refusing LabelHeld else Done)) else refusing DamagedPool)
+    opened : (x o y : Bool) → WholeReply (if x then (if o then refusing TextOpen else (if y then refusing LabelHeld else Ok tt)) else refusing DamagedPool)
     opened x true y = no_line x (refusing TextOpen) (few-refusing TextOpen)
     opened x false true = no_line x (refusing LabelHeld) (few-refusing LabelHeld)
-    opened x false false = no_line x Done few-done
+    opened x false false = no_line x (Ok tt) few-done
 
-    removed : (x o y : Bool) → WholeReply (if x then (if o then refusing TextOpen else (if y then Done else refusing NotHeld)) else refusing DamagedPool)
+    removed : (x o y : Bool) → WholeReply (if x then (if o then refusing TextOpen else (if y then Ok tt else refusing NotHeld)) else refusing DamagedPool)
     removed x true y = no_line x (refusing TextOpen) (few-refusing TextOpen)
-    removed x false true = no_line x Done few-done
+    removed x false true = no_line x (Ok tt) few-done
     removed x false false = no_line x (refusing NotHeld) (few-refusing NotHeld)

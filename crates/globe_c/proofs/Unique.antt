@@ -2,8 +2,7 @@
 use mathlib.Core.Path.{◌≡◌, sym, ap, ◌∙◌}
 use mathlib.Core.List.{List}
 use Prim.Native.Nat.{ℕ}
-use Rattle.pool.specs.declared.reply.Reply.{Reply}
-use Rattle.pool.specs.declared.reply.Fetched.{Fetched}
+use Rattle.pool.specs.Replies.{Reply, Fetched}
 use lib.Ieee.{Float}
 use Rattle.globe.specs.declared.source.Source.{Source}
 use Rattle.drive.proofs.Once.{places-once, steps-once}

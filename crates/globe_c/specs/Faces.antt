@@ -1,20 +1,16 @@
 -- "Success is number 0 with line 0, and fetch also tells the count (0 when refused). A refusal returns its number, for 3 to 6 the line
 -- (0 for all others), and no values": each answer as a C structure, whose fields are zeros where there are no values. Definitions only.
-use Rattle.std.specs.Prelude.{ℕ, ◌%◌, ◌≡◌, List}
+use Rattle.std.specs.Prelude.{ℕ, ◌%◌, ◌≡◌, List, Result, Ok, Err}
 use Rattle.plain.specs.Doubles.{nought}
+use Rattle.refusal.specs.declared.Refusal.{Refusal}
 use Rattle.refusal.specs.Numbers.{SUCCESS, number_of}
-use Rattle.rotation.specs.declared.matrix.Oriented.{Oriented}
-use Rattle.rotation.specs.declared.matrix.Oriented.TheVariants as O
-use Rattle.rotation.specs.declared.table.Radii.{Radii}
-use Rattle.rotation.specs.declared.table.Radii.TheVariants as A
-use Rattle.pool.specs.Replies.{reply_number, reply_line, reply_column, fetched_number, fetched_count, counts_number, counts_texts, counts_statements, counts_values}
-use Rattle.pool.specs.declared.reply.Reply.{Reply}
-use Rattle.pool.specs.declared.reply.Fetched.{Fetched}
-use Rattle.pool.specs.declared.reply.Counts.{Counts}
+use Rattle.pool.specs.Replies.{Reply, Fetched, Counted, reply_number, reply_line, reply_column, fetched_number, fetched_count, counts_number, counts_texts, counts_statements, counts_values}
 use Rattle.globe_c.specs.declared.face.GlobeReply.{GlobeReply}
 use Rattle.globe_c.specs.declared.face.GlobeFetched.{GlobeFetched}
 use Rattle.globe_c.specs.declared.face.GlobeCounts.{GlobeCounts}
 use Rattle.globe_c.specs.declared.face.GlobeOriented.{GlobeOriented}
+use Rattle.rotation.specs.declared.matrix.Orientation.{Orientation}
+use Rattle.rotation.specs.declared.table.Axes.{Axes}
 use Rattle.globe_c.specs.declared.face.GlobeAxes.{GlobeAxes}
 
 -- a line, a column or a count in 32 bits; that nothing is lost is `LosesNothing`
@@ -27,7 +23,7 @@ reply_face r = record { number = reply_number r; line = narrow (reply_line r); c
 abbrev pub fetched_face : Fetched → GlobeFetched
 fetched_face r = record { number = fetched_number r; line = 0; column = 0; count = narrow (fetched_count r) }
 
-abbrev pub counts_face : Counts → GlobeCounts
+abbrev pub counts_face : Counted → GlobeCounts
 counts_face r =
     record {
       number = counts_number r;
@@ -38,8 +34,8 @@ counts_face r =
       values = narrow (counts_values r);
     }
 
-unfoldable pub oriented_face : Oriented → GlobeOriented
-oriented_face (O.Given o) =
+unfoldable pub oriented_face : Result Orientation Refusal → GlobeOriented
+oriented_face (Ok o) =
     record {
       number = SUCCESS;
       line = 0;
@@ -57,7 +53,7 @@ oriented_face (O.Given o) =
       m32 = o.m32;
       m33 = o.m33;
     }
-oriented_face (O.Refused q) =
+oriented_face (Err q) =
     record {
       number = number_of q;
       line = 0;
@@ -76,9 +72,9 @@ oriented_face (O.Refused q) =
       m33 = nought;
     }
 
-unfoldable pub axes_face : Radii → GlobeAxes
-axes_face (A.Given x) = record { number = SUCCESS; line = 0; column = 0; a = x.a; b = x.b; c = x.c }
-axes_face (A.Refused q) = record { number = number_of q; line = 0; column = 0; a = nought; b = nought; c = nought }
+unfoldable pub axes_face : Result Axes Refusal → GlobeAxes
+axes_face (Ok x) = record { number = SUCCESS; line = 0; column = 0; a = x.a; b = x.b; c = x.c }
+axes_face (Err q) = record { number = number_of q; line = 0; column = 0; a = nought; b = nought; c = nought }
 
 -- the whole contract of a call that changes the pool: its reply and the memory that it leaves
 pub record Changes (reply : Reply) (memory : List ℕ) (r : GlobeReply) (after : List ℕ) : Type 0 where

@@ -7,10 +7,7 @@ use Rattle.intake.specs.Calls.{open_reply, feed_reply, close_reply}
 use Rattle.pool.specs.Fetch.{fetch_reply}
 use Rattle.pool.specs.FetchString.{string_reply}
 use Rattle.pool.specs.Totals.{totals_reply}
-use Rattle.pool.specs.Replies.{reply_number, reply_line, reply_column, fetched_number, fetched_count, counts_number, counts_texts, counts_statements, counts_values}
-use Rattle.pool.specs.declared.reply.Reply.{Reply}
-use Rattle.pool.specs.declared.reply.Fetched.{Fetched}
-use Rattle.pool.specs.declared.reply.Counts.{Counts}
+use Rattle.pool.specs.Replies.{Reply, Fetched, Counted, reply_number, reply_line, reply_column, fetched_number, fetched_count, counts_number, counts_texts, counts_statements, counts_values}
 use Rattle.globe_c.specs.Faces.{reply_face, fetched_face, counts_face}
 
 -- ---- an answer shown whole: each field of its structure is the answer's
@@ -26,7 +23,7 @@ pub record WholeFetched (fetched : Fetched) : Type 0 where
   pub column : (fetched_face fetched).column ≡ 0
   pub count : (fetched_face fetched).count ≡ fetched_count fetched
 
-pub record WholeCounts (counts : Counts) : Type 0 where
+pub record WholeCounts (counts : Counted) : Type 0 where
   pub number : (counts_face counts).number ≡ counts_number counts
   pub line : (counts_face counts).line ≡ 0
   pub column : (counts_face counts).column ≡ 0

@@ -1,12 +1,11 @@
 // The answers as C structures, include/globe.h.
-ghost use Rattle.std.specs.Prelude.{◌≡◌};
-ghost use Rattle.rotation.specs.declared.matrix.Oriented.TheVariants.{Given, Refused};
+ghost use Rattle.std.specs.Prelude.{◌≡◌, Ok, Err};
 ghost use Rattle.globe_c.specs.Faces.{narrow, reply_face, fetched_face, counts_face, oriented_face, axes_face};
 
-use pool::reply::{Counts, Fetched, Reply};
+use pool::reply::{Counts, Refused};
 use refusal::{Refusal, number};
-use rotation::matrix::{Orientation, Oriented};
-use rotation::table::Radii;
+use rotation::matrix::Orientation;
+use rotation::table::Axes;
 
 #[repr(C)]
 #[derive(Clone, Copy)]
@@ -67,34 +66,34 @@ pub struct GlobeAxes {
     pub c: f64,
 }
 
-pub(crate) fn reply_face(reply: Reply) -> GlobeReply
+pub(crate) fn reply_face(reply: Result<(), Refused>) -> GlobeReply
     ensures { result ≡ reply_face reply }
 {
     match reply {
-        Reply::Done => GlobeReply {
+        Ok(()) => GlobeReply {
             number: 0,
             line: 0,
             column: 0,
         },
-        Reply::Refused(refusal, line, column) => GlobeReply {
-            number: number(refusal),
-            line: narrow(line),
-            column: narrow(column),
+        Err(refused) => GlobeReply {
+            number: number(refused.refusal),
+            line: narrow(refused.line),
+            column: narrow(refused.column),
         },
     }
 }
 
-pub(crate) fn fetched_face(fetched: Fetched) -> GlobeFetched
+pub(crate) fn fetched_face(fetched: Result<usize, Refusal>) -> GlobeFetched
     ensures { result ≡ fetched_face fetched }
 {
     match fetched {
-        Fetched::Count(count) => GlobeFetched {
+        Ok(count) => GlobeFetched {
             number: 0,
             line: 0,
             column: 0,
             count: narrow(count),
         },
-        Fetched::Refused(refusal) => GlobeFetched {
+        Err(refusal) => GlobeFetched {
             number: number(refusal),
             line: 0,
             column: 0,
@@ -103,19 +102,19 @@ pub(crate) fn fetched_face(fetched: Fetched) -> GlobeFetched
     }
 }
 
-pub(crate) fn counts_face(counts: Counts) -> GlobeCounts
+pub(crate) fn counts_face(counts: Result<Counts, Refusal>) -> GlobeCounts
     ensures { result ≡ counts_face counts }
 {
     match counts {
-        Counts::Held(texts, statements, values) => GlobeCounts {
+        Ok(held) => GlobeCounts {
             number: 0,
             line: 0,
             column: 0,
-            texts: narrow(texts),
-            statements: narrow(statements),
-            values: narrow(values),
+            texts: narrow(held.texts),
+            statements: narrow(held.statements),
+            values: narrow(held.values),
         },
-        Counts::Refused(refusal) => GlobeCounts {
+        Err(refusal) => GlobeCounts {
             number: number(refusal),
             line: 0,
             column: 0,
@@ -126,20 +125,22 @@ pub(crate) fn counts_face(counts: Counts) -> GlobeCounts
     }
 }
 
-pub(crate) fn oriented_face(oriented: Oriented) -> GlobeOriented
+#[tactic(auto, unfolding(crate::specs::Faces::oriented_face))]
+pub(crate) fn oriented_face(oriented: Result<Orientation, Refusal>) -> GlobeOriented
     ensures { result ≡ oriented_face oriented }
 {
     match oriented {
-        Oriented::Given(o) => given(o),
-        Oriented::Refused(refusal) => refused(refusal),
+        Ok(o) => given(o),
+        Err(refusal) => refused(refusal),
     }
 }
 
-pub(crate) fn axes_face(radii: Radii) -> GlobeAxes
+#[tactic(auto, unfolding(crate::specs::Faces::axes_face))]
+pub(crate) fn axes_face(radii: Result<Axes, Refusal>) -> GlobeAxes
     ensures { result ≡ axes_face radii }
 {
     match radii {
-        Radii::Given(x) => GlobeAxes {
+        Ok(x) => GlobeAxes {
             number: 0,
             line: 0,
             column: 0,
@@ -147,7 +148,7 @@ pub(crate) fn axes_face(radii: Radii) -> GlobeAxes
             b: x.b,
             c: x.c,
         },
-        Radii::Refused(refusal) => GlobeAxes {
+        Err(refusal) => GlobeAxes {
             number: number(refusal),
             line: 0,
             column: 0,
@@ -159,7 +160,7 @@ pub(crate) fn axes_face(radii: Radii) -> GlobeAxes
 }
 
 fn given(o: Orientation) -> GlobeOriented
-    ensures { result ≡ oriented_face (Given o) }
+    ensures { result ≡ oriented_face (Ok o) }
 {
     GlobeOriented {
         number: 0,
@@ -181,7 +182,7 @@ fn given(o: Orientation) -> GlobeOriented
 }
 
 fn refused(refusal: Refusal) -> GlobeOriented
-    ensures { result ≡ oriented_face (Refused refusal) }
+    ensures { result ≡ oriented_face (Err refusal) }
 {
     GlobeOriented {
         number: number(refusal),
@@ -202,7 +203,7 @@ fn refused(refusal: Refusal) -> GlobeOriented
     }
 }
 
-// A count in 32 bits.
+// A count in 32 bits: the definition `narrow`, by which `LosesNothing` is stated, takes the remainder.
 fn narrow(n: usize) -> u32
     ensures { result ≡ narrow n }
 {

@@ -2,8 +2,8 @@
 ghost use Rattle.std.specs.Prelude.{◌≡◌};
 ghost use Rattle.globe_c.specs.Motor.{position_face, motion_face};
 
-use drive::answer::{Moved, Placed};
-use refusal::number;
+use drive::answer::Motion;
+use refusal::{Refusal, number};
 
 #[repr(C)]
 #[derive(Clone, Copy)]
@@ -25,17 +25,17 @@ pub struct GlobeMotion {
     pub way: i32,
 }
 
-pub(crate) fn position_face(placed: Placed) -> GlobePosition
+pub(crate) fn position_face(placed: Result<u32, Refusal>) -> GlobePosition
     ensures { result ≡ position_face placed }
 {
     match placed {
-        Placed::At(position) => GlobePosition {
+        Ok(position) => GlobePosition {
             number: 0,
             line: 0,
             column: 0,
             position,
         },
-        Placed::Refused(refusal) => GlobePosition {
+        Err(refusal) => GlobePosition {
             number: number(refusal),
             line: 0,
             column: 0,
@@ -44,18 +44,18 @@ pub(crate) fn position_face(placed: Placed) -> GlobePosition
     }
 }
 
-pub(crate) fn motion_face(moved: Moved) -> GlobeMotion
+pub(crate) fn motion_face(moved: Result<Motion, Refusal>) -> GlobeMotion
     ensures { result ≡ motion_face moved }
 {
     match moved {
-        Moved::To(target, way) => GlobeMotion {
+        Ok(motion) => GlobeMotion {
             number: 0,
             line: 0,
             column: 0,
-            target,
-            way,
+            target: motion.target,
+            way: motion.way,
         },
-        Moved::Refused(refusal) => GlobeMotion {
+        Err(refusal) => GlobeMotion {
             number: number(refusal),
             line: 0,
             column: 0,

@@ -1,7 +1,6 @@
 -- `globe_clear` meets its contract: the reply of the call and the memory that it leaves. Assumes nothing.
 use mathlib.Core.Path.{ap, ◌∙◌}
 use Rattle.globe_c.specs.Faces.{reply_face}
-use borrow.Author.Rules.{rules}
 use Rattle.globe_c.proofs.globe_clear.Goals as goal
 
 pub returns : goal.returns

@@ -1,5 +1,4 @@
 -- `globe_drive_builtin_move` meets its contract: the answer of the drive's call, shown. Assumes nothing.
-use borrow.Author.Rules.{rules}
 use Rattle.globe_c.proofs.globe_drive_builtin_move.Goals as goal
 
 pub returns : goal.returns

@@ -1,5 +1,4 @@
 -- `globe_drive_builtin_position` meets its contract: the answer of the drive's call, shown. Assumes nothing.
-use borrow.Author.Rules.{rules}
 use Rattle.globe_c.proofs.globe_drive_builtin_position.Goals as goal
 
 pub returns : goal.returns

@@ -1,7 +1,6 @@
 -- `globe_fetch_string` meets its contract: the answer of the call and the buffer that it leaves. Assumes nothing.
 use mathlib.Core.Path.{ap, ◌∙◌}
 use Rattle.globe_c.specs.Faces.{fetched_face}
-use borrow.Author.Rules.{rules}
 use Rattle.globe_c.proofs.globe_fetch_string.Goals as goal
 
 pub returns : goal.returns

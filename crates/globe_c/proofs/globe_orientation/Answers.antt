@@ -1,7 +1,6 @@
 -- `globe_orientation` meets its contract: the answer of the call. Assumes nothing.
 use mathlib.Core.Path.{ap, ◌∙◌}
 use Rattle.globe_c.specs.Faces.{oriented_face}
-use borrow.Author.Rules.{rules}
 use Rattle.globe_c.proofs.globe_orientation.Goals as goal
 
 pub returns : goal.returns

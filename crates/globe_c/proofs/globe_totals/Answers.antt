@@ -1,7 +1,6 @@
 -- `globe_totals` meets its contract: the answer of the call. Assumes nothing.
 use mathlib.Core.Path.{ap, ◌∙◌}
 use Rattle.globe_c.specs.Faces.{counts_face}
-use borrow.Author.Rules.{rules}
 use Rattle.globe_c.proofs.globe_totals.Goals as goal
 
 pub returns : goal.returns

@@ -2,7 +2,6 @@
 use lib.Ieee.{of_bits, round}
 use Rattle.plain.specs.Doubles.{printed, nought}
 use Rattle.globe_c.specs.Faces.{oriented_face}
-use borrow.Author.Rules.{rules}
 use Rattle.globe_c.proofs.face.refused.Goals as goal
 
 pub returns : goal.returns
