@@ -71,7 +71,7 @@ pub fn places(reader: Reader) -> usize
     }
 }
 
-// The pool has room for so much beside what it holds.
+// The pool has room for so much beside what it holds. No twin of `has_room` in `loading`, which asks for a text more.
 pub fn has_room(pool: &[u64], sums: Entered) -> bool
     requires { (Framed pool.now) × (Few sums) }
     ensures { result ≡ room_for pool.now sums }

@@ -7,7 +7,7 @@ ghost use Rattle.entering.specs.Lines.{Adds, Lays};
 
 use crate::counts::places;
 use bookmark::mark::Entered;
-use layout::limits::{BYTE_COUNT, STATEMENT_COUNT, VALUE_COUNT};
+use layout::limits::{BYTE_COUNT, STATEMENT_COUNT, VALUE_COUNT, WORDS};
 use page::pen::{Pen, pen_behind, tell};
 use page::store::store_number;
 use statement::values::{Kind, Reader};
@@ -19,7 +19,11 @@ pub fn write_added(pool: &mut [u64], entered: Entered, reader: Reader, line: &[u
     ensures { Lays pool.old entered reader line.now pool.new }
 {
     let pen = pen_at(pool, entered, reader);
-    let turn = write_line(pool, pen, reader, line);
+    // What it has room in has so many words.
+    let Some(words) = pool.as_mut_array::<WORDS>() else {
+        unreachable!()
+    };
+    let turn = write_line(words, pen, reader, line);
     if given == 0 {
         hold_place(pool, turn.pen);
     }

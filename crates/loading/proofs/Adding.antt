@@ -118,7 +118,7 @@ module _ (label : ℕ) (bytes : List ℕ) (n k b : ℕ) (m : List ℕ) (a : Acce
   admits p e = subst (Admits bytes) (sym e) admits-behind
 
   module _ (m1 : List ℕ) (e1 : m1 ≡ over (TEXTS_AT + text_count m) ((label * HALF + n) ∷ []) m) where
-    pub sized : length m1 ≡ WORDS
+    sized : length m1 ≡ WORDS
     sized = ap length e1 ∙ length_over (TEXTS_AT + text_count m) ((label * HALF + n) ∷ []) m ∙ (sound-of m a.undamaged).sizes.words
 
     even : Words m → Even (page m1 (pen_of m))

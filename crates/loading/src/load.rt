@@ -13,7 +13,7 @@ ghost use Rattle.loading.specs.Load.{Loads, Counted, with, text_of, Accepts};
 use layout::front::write_front;
 use layout::limits::{
     BYTE_COUNT, BYTES, HALF, STATEMENT_COUNT, STATEMENTS, TEXT_COUNT, TEXTS, TEXTS_AT, VALUE_COUNT,
-    VALUES,
+    VALUES, WORDS,
 };
 use layout::undamaged::Undamaged;
 use page::pen::pen_behind;
@@ -46,7 +46,11 @@ pub fn load(pool: &mut [u64], label: u32, text: &[u8]) -> Result<(), Refused>
     if !has_room(Undamaged { words: pool }, counts) {
         return Err(Refusal::NoRoom.into());
     }
-    add(pool, label, text, counts);
+    // An undamaged pool has so many words.
+    let Some(words) = pool.as_mut_array() else {
+        unreachable!()
+    };
+    add(words, label, text, counts);
     Ok(())
 }
 
@@ -62,7 +66,8 @@ pub fn refused_at(found: TextFault) -> Refused
     }
 }
 
-// There is room for a text more, of so many statements, values and bytes in strings.
+// There is room for a text more, of so many statements, values and bytes in strings. No twin of `has_room` in `entering`, which has the sums of
+// a text that is open already. Four tests, a line each: in one `&&` the proof of each would nest in that of the one before.
 fn has_room(pool: Undamaged, counts: Counts) -> bool
     ensures { (t : Text) → Counted t counts.statements counts.values counts.bytes → result ≡ room (with (decode pool.entry.words.now) t) }
 {
@@ -80,7 +85,7 @@ fn has_room(pool: Undamaged, counts: Counts) -> bool
 }
 
 // An accepted text of so many statements, values and bytes in strings is written behind what is held, and the front last.
-fn add(pool: &mut [u64], label: u32, text: &[u8], counts: Counts)
+fn add(pool: &mut [u64; WORDS], label: u32, text: &[u8], counts: Counts)
     requires { Accepts label text.now counts.statements counts.values counts.bytes pool.old }
     ensures { pool.new ≡ put (with (decode pool.old) (text_of label text.now)) pool.old }
 {

@@ -39,11 +39,10 @@ pub record Copying (line string : List ℕ) (at : ℕ) (before : List ℕ) (k j 
   pub count : length written ≡ j
   pub whole : written ++ contents (scanned (drop k line)) ≡ string
   pub memory : m ≡ spelt at written before
-  pub long : length m ≡ length before
 
 pub at_first : (line : List ℕ) (from at : ℕ) (m : List ℕ) → Words m → Copying line (undoubled (drop from line)) at m (from + 1) 0 m
 at_first line from at m w =
-    record { written = []; bytes = tt; count = refl; whole = sym (undoubled-at line from); memory = sym (spelt-none at m w); long = refl }
+    record { written = []; bytes = tt; count = refl; whole = sym (undoubled-at line from); memory = sym (spelt-none at m w) }
 
 module _ (line string : List ℕ) (at : ℕ) (before : List ℕ) (k j : ℕ) (m : List ℕ) (f : Copying line string at before k j m) where
   abbrev left : List ℕ
@@ -57,8 +56,8 @@ module _ (line string : List ℕ) (at : ℕ) (before : List ℕ) (k j : ℕ) (m 
   reads h = byte_left line k (omega (arith, all))
 
   pub one_more : j < length string → BYTES_AT + BYTEWORDS ≤ length before → (b : ℕ) → b ≡ get_or line k 0 → b < 256 → (n : ℕ) → n ≡ k + width b
-      → (m' : List ℕ) → m' ≡ spelt (at + j) (b ∷ []) m → length m' ≡ length m → Copying line string at before n (j + 1) m'
-  one_more h z b e s n w m' p l =
+      → (m' : List ℕ) → m' ≡ spelt (at + j) (b ∷ []) m → Copying line string at before n (j + 1) m'
+  one_more h z b e s n w m' p =
       let r : left ≡ b ∷ contents (scanned (drop n line)) =
       next-byte line k (omega (arith, all)) ∙ sym ((λ i. e i ∷ contents (scanned (drop (w i) line))) ∙ ap (λ (c : ℕ). get_or line k 0 ∷ contents (scanned (drop (k + width c) line))) e) in
       record {
@@ -67,7 +66,6 @@ module _ (line string : List ℕ) (at : ℕ) (before : List ℕ) (k j : ℕ) (m 
         count = omega (arith, length-append f.written (b ∷ []), f.count);
         whole = append_assoc f.written (b ∷ []) (contents (scanned (drop n line))) ∙ ap (λ (x : List ℕ). f.written ++ x) (sym r) ∙ f.whole;
         memory = p ∙ (λ i. spelt (at + sym f.count i) (b ∷ []) (f.memory i)) ∙ inked-in-append BYTES_AT BYTEWORDS at f.written before z (b ∷ []) f.bytes;
-        long = l ∙ f.long;
       }
 
   -- no byte is left

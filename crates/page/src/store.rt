@@ -1,16 +1,16 @@
 // One value stored behind what is held: a number's bits, or a string's length and its bytes.
-ghost use Rattle.std.specs.Prelude.{◌≡◌, not, ◌≤◌, length, drop, T};
+ghost use Rattle.std.specs.Prelude.{◌≡◌, not, ◌≤◌, drop, T};
 ghost use Rattle.std.specs.Float.Ieee.{is_nan};
 ghost use Rattle.value.specs.Strings.{undoubled};
 ghost use Rattle.value.specs.Value.{number, string};
 ghost use Rattle.words.specs.Halves.{HALF};
 ghost use Rattle.octets.specs.Octets.{inked_in};
-ghost use Rattle.layout.specs.Limits.{WORDS, BYTES_AT, BYTEWORDS};
+ghost use Rattle.layout.specs.Limits.{BYTES_AT, BYTEWORDS};
 ghost use Rattle.page.specs.Writing.{page, stored_on};
 ghost use Rattle.page.specs.Pens.{Stretches, Quoted};
 
 use crate::pen::Pen;
-use layout::limits::{BYTES_AT, BYTEWORDS};
+use layout::limits::{BYTES_AT, BYTEWORDS, WORDS};
 use octets::area::set_byte_in;
 use words::write::store;
 
@@ -27,8 +27,8 @@ pub fn store_number(m: &mut [u64], pen: Pen, x: f64) -> Pen
 }
 
 // The string whose opening quote is at `from`, of n bytes.
-pub fn store_string(m: &mut [u64], pen: Pen, line: &[u8], from: usize, n: usize) -> Pen
-    requires { (length m.old ≡ WORDS) × (Stretches pen) × (Quoted line.now from n) }
+pub fn store_string(m: &mut [u64; WORDS], pen: Pen, line: &[u8], from: usize, n: usize) -> Pen
+    requires { (Stretches pen) × (Quoted line.now from n) }
     ensures { page m.new result ≡ stored_on (string (undoubled (drop from line.now))) (page m.old pen) }
 {
     write_string(m, pen.bytes, line, from, n);
@@ -40,9 +40,10 @@ pub fn store_string(m: &mut [u64], pen: Pen, line: &[u8], from: usize, n: usize)
     }
 }
 
-// Its bytes, two quotes being one, are written from byte `at` on.
-fn write_string(m: &mut [u64], at: usize, line: &[u8], from: usize, n: usize)
-    requires { (length m.old ≡ WORDS) × (at ≤ HALF) × (Quoted line.now from n) }
+// Its bytes, two quotes being one, are written from byte `at` on. The place in the line goes on by a byte, and at a quote by two, so that no
+// iterator over the line has it.
+fn write_string(m: &mut [u64; WORDS], at: usize, line: &[u8], from: usize, n: usize)
+    requires { (at ≤ HALF) × (Quoted line.now from n) }
     ensures { m.new ≡ inked_in BYTES_AT BYTEWORDS at (undoubled (drop from line.now)) m.old }
 {
     let mut k = from + 1;

@@ -47,7 +47,7 @@ finished-fine (R.List k) number long es e = let z : ◌≡◌ {A = ℕ} 0 1 = cc
 
 -- ---- the loop
 
-pub record Passes (text : List ℕ) (final : Page) (long : ℕ) (at : ℕ) (m : List ℕ) (pen : Pen) (r : Reader) : Type 0 where
+pub record Passes (text : List ℕ) (final : Page) (at : ℕ) (m : List ℕ) (pen : Pen) (r : Reader) : Type 0 where
   pub number : ℕ
   pub last : ℕ
   pub events : List Event
@@ -55,10 +55,9 @@ pub record Passes (text : List ℕ) (final : Page) (long : ℕ) (at : ℕ) (m : 
   pub written : written_on events (page m pen) ≡ final
   pub room : Room pen (openings events) (givings events) (bytes_given events)
   pub stays : at ≤ length text + 1
-  pub keeps : length m ≡ long
 
 module _ (text : List ℕ) (m : List ℕ) (pen : Pen) (a : Admits text pen) where
-  pub at_first : Passes text (written_on (added (read_text text)) (page m pen)) (length m) 0 m pen R.Text
+  pub at_first : Passes text (written_on (added (read_text text)) (page m pen)) 0 m pen R.Text
   unfolding read_text
   at_first = record {
     number = 0;
@@ -68,10 +67,9 @@ module _ (text : List ℕ) (m : List ℕ) (pen : Pen) (a : Admits text pen) wher
     written = rw a.reads;
     room = a.room;
     stays = omega arith;
-    keeps = refl;
   }
 
-module _ (text : List ℕ) (final : Page) (long at : ℕ) (m : List ℕ) (pen : Pen) (r : Reader) (f : Passes text final long at m pen r) where
+module _ (text : List ℕ) (final : Page) (at : ℕ) (m : List ℕ) (pen : Pen) (r : Reader) (f : Passes text final at m pen r) where
   -- one line more
   module _ (c : Cut) (cuts : Cuts text at c) where
     line : List ℕ
@@ -95,11 +93,11 @@ module _ (text : List ℕ) (final : Page) (long at : ℕ) (m : List ℕ) (pen : 
           names = omega (arith, d.names);
         }
 
-    pub one_more : (m' : List ℕ) (t : Turn) → length m' ≡ length m
+    pub one_more : (m' : List ℕ) (t : Turn)
         → Writes (answered r (take (c.end - at) (drop at text))) (page m pen) m' t
-        → Passes text final long c.next m' t.pen t.reader
+        → Passes text final c.next m' t.pen t.reader
     unfolding read_from
-    one_more m' t k w =
+    one_more m' t w =
         let l = take (c.end - at) (drop at text) in
         let more : Reader → Read = λ s. read_from s (f.number + 1) (length l) (lines (drop c.next text)) in
         let e : continued (answered r l) (f.number + 1) more ≡ fine f.events = rw cuts.line at f.reads in
@@ -118,7 +116,6 @@ module _ (text : List ℕ) (final : Page) (long at : ℕ) (m : List ℕ) (pen : 
           written = ap (written_on g.rest) u.left ∙ sym (written-append g.first g.rest (page m pen)) ∙ ap (λ (es : List Event). written_on es (page m pen)) g.events ∙ f.written;
           room = subst (λ (p : Page). Room p.pen (openings g.rest) (givings g.rest) (bytes_given g.rest)) (sym u.left) room;
           stays = cuts.stays;
-          keeps = k ∙ f.keeps;
         }
 
   -- no line is left

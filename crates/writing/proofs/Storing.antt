@@ -66,7 +66,6 @@ pub record Storing (first : Kind) (line : List ℕ) (from : ℕ) (start : Page) 
   pub values : pen.values ≤ BYTES_AT + given
   pub strings : pen.bytes ≤ BYTES + STRING * given
   pub short : bytes ≤ STRING * given
-  pub long : length m ≡ length start.memory
 
 module _ (first : Kind) (line : List ℕ) (from : ℕ) where
   pub at_first : (m : List ℕ) (pen : Pen) → Storable pen line → Storing first line from (page m pen) pen first from 0 0 (length line) m
@@ -77,7 +76,6 @@ module _ (first : Kind) (line : List ℕ) (from : ℕ) where
     values = omega (arith, s.values);
     strings = omega (arith, s.bytes);
     short = omega arith;
-    long = refl;
   }
 
   module _ (start : Page) (pen : Pen) (kind : Kind) (i given bytes left : ℕ) (m : List ℕ) (f : Storing first line from start pen kind i given bytes left m) where
@@ -96,10 +94,10 @@ module _ (first : Kind) (line : List ℕ) (from : ℕ) where
     -- a value is stored, and after it the list has kind d
     pub one_more : (v : Value) (d : Kind) (k : ℕ) → 0 < left → items_up_to left line kind i ≡ values.with_value v (items_up_to (left - 1) line d k)
         → (t : ℕ) → t ≡ bytes + bytes_in v → bytes_in v ≤ STRING
-        → (m' : List ℕ) (pen' : Pen) → page m' pen' ≡ stored_on v (page m pen) → length m' ≡ length m
+        → (m' : List ℕ) (pen' : Pen) → page m' pen' ≡ stored_on v (page m pen)
         → Storing first line from start pen' d k (given + 1) t (left - 1) m'
     unfolding stored_all
-    one_more v d k h e t b s m' pen' p l =
+    one_more v d k h e t b s m' pen' p =
         let is = items_up_to (left - 1) line d k in
         let z : given + 1 + length is.values ≡ given + suc (length is.values) = omega arith in
         let y : t + bytes_in_all is.values ≡ bytes + (bytes_in v + bytes_in_all is.values) = omega (arith, b) in
@@ -113,5 +111,4 @@ module _ (first : Kind) (line : List ℕ) (from : ℕ) where
           values = omega (arith, f.values, nv);
           strings = omega (arith, f.strings, nb, s);
           short = omega (arith, f.short, b, s);
-          long = l ∙ f.long;
         }

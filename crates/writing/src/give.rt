@@ -1,13 +1,13 @@
 // The values that a line gives to the statement opened last: document 01, "Then a number, or `(` with at least one number and `)`";
 // document 02, K2, "A list is all numbers or all strings".
-ghost use Rattle.std.specs.Prelude.{◌≡◌, length};
+ghost use Rattle.std.specs.Prelude.{◌≡◌};
 ghost use Rattle.value.specs.Value.{value_of};
 ghost use Rattle.statement.specs.Values.{listed, given_at};
-ghost use Rattle.layout.specs.Limits.{WORDS};
 ghost use Rattle.page.specs.Writing.{page, stored_on};
 ghost use Rattle.page.specs.Pens.{Stretches};
 ghost use Rattle.writing.specs.Pens.{Ready, Storable, Found, Stores, stopped, after_list, Gives};
 
+use layout::limits::WORDS;
 use page::pen::{Pen, tell};
 use page::store::{store_number, store_string};
 use statement::values::{Counted, Item, Kind, Reader, kind_of, next_item};
@@ -29,8 +29,8 @@ pub struct Stored {
 }
 
 // The values that start at a place, after the operator: a list, a number or a string.
-pub fn give_values(m: &mut [u64], pen: Pen, line: &[u8], at: usize) -> Turn
-    requires { (length m.old ≡ WORDS) × (Ready pen line.now) }
+pub fn give_values(m: &mut [u64; WORDS], pen: Pen, line: &[u8], at: usize) -> Turn
+    requires { Ready pen line.now }
     ensures { Gives (given_at line.now at) (page m.old pen) m.new result }
 {
     if classes::stands(b'(', line, at) {
@@ -50,8 +50,8 @@ pub fn give_values(m: &mut [u64], pen: Pen, line: &[u8], at: usize) -> Turn
 }
 
 // A value that is found in a line is stored.
-fn store_word(m: &mut [u64], pen: Pen, line: &[u8], word: Word) -> Pen
-    requires { (length m.old ≡ WORDS) × (Stretches pen) × (Found line.now word) }
+fn store_word(m: &mut [u64; WORDS], pen: Pen, line: &[u8], word: Word) -> Pen
+    requires { (Stretches pen) × (Found line.now word) }
     ensures { page m.new result ≡ stored_on (value_of line.now word) (page m.old pen) }
 {
     match word {
@@ -61,8 +61,8 @@ fn store_word(m: &mut [u64], pen: Pen, line: &[u8], word: Word) -> Pen
 }
 
 // The values of a list that is open at a place, `kind` telling what it has on earlier lines.
-pub fn give_list(m: &mut [u64], pen: Pen, kind: Kind, line: &[u8], at: usize) -> Turn
-    requires { (length m.old ≡ WORDS) × (Ready pen line.now) }
+pub fn give_list(m: &mut [u64; WORDS], pen: Pen, kind: Kind, line: &[u8], at: usize) -> Turn
+    requires { Ready pen line.now }
     ensures { Gives (listed kind line.now at) (page m.old pen) m.new result }
 {
     let stored = store_items(m, pen, kind, line, at);
@@ -86,8 +86,8 @@ fn after_list(kind: Kind, stop: Result<Option<usize>, LineFault>) -> Reader
 
 // A list's values from a place on are stored, and counted: no more of them than the line has bytes. (`count_items` has this loop without the
 // memory; one for both, over a closure that carries memory and pen, is no plainer.)
-fn store_items(m: &mut [u64], pen: Pen, kind: Kind, line: &[u8], from: usize) -> Stored
-    requires { (length m.old ≡ WORDS) × (Storable pen line.now) }
+fn store_items(m: &mut [u64; WORDS], pen: Pen, kind: Kind, line: &[u8], from: usize) -> Stored
+    requires { Storable pen line.now }
     ensures { Stores kind line.now from (page m.old pen) result m.new }
 {
     let mut last = pen;

@@ -1,13 +1,13 @@
 // The second pass of a load: a text that was admitted is read again by the same scanner, and written behind what is held.
-ghost use Rattle.std.specs.Prelude.{◌≡◌, length};
+ghost use Rattle.std.specs.Prelude.{◌≡◌};
 ghost use Rattle.statement.specs.Head.{head};
 ghost use Rattle.text.specs.Line.{stated, plain, answered};
 ghost use Rattle.text.specs.Text.{read_text, added};
-ghost use Rattle.layout.specs.Limits.{WORDS};
 ghost use Rattle.page.specs.Writing.{page, written_on};
 ghost use Rattle.writing.specs.Pens.{Admits, Roomy, Writes};
 
 use crate::give::{Turn, give_list, give_values};
+use layout::limits::WORDS;
 use page::pen::{Pen, open_statement};
 use statement::head::read_head;
 use statement::values::Reader;
@@ -15,8 +15,8 @@ use text::delimiters::{Mark, read_mark};
 use text::lines::cut_line;
 
 // All lines of an admitted text. A `while`, for its place goes on by a line.
-pub fn write_text(m: &mut [u64], pen: Pen, text: &[u8]) -> Pen
-    requires { (length m.old ≡ WORDS) × (Admits text.now pen) }
+pub fn write_text(m: &mut [u64; WORDS], pen: Pen, text: &[u8]) -> Pen
+    requires { Admits text.now pen }
     ensures { page m.new result ≡ written_on (added (read_text text.now)) (page m.old pen) }
 {
     let mut at = 0;
@@ -33,8 +33,8 @@ pub fn write_text(m: &mut [u64], pen: Pen, text: &[u8]) -> Pen
 }
 
 // A line of an admitted text, or of an open one whose outcome is known.
-pub fn write_line(m: &mut [u64], pen: Pen, reader: Reader, line: &[u8]) -> Turn
-    requires { (length m.old ≡ WORDS) × (Roomy pen line.now) }
+pub fn write_line(m: &mut [u64; WORDS], pen: Pen, reader: Reader, line: &[u8]) -> Turn
+    requires { Roomy pen line.now }
     ensures { Writes (answered reader line.now) (page m.old pen) m.new result }
 {
     let mark = read_mark(line);
@@ -52,8 +52,8 @@ pub fn write_line(m: &mut [u64], pen: Pen, reader: Reader, line: &[u8]) -> Turn
 }
 
 // A line that is no delimiter.
-fn write_plain(m: &mut [u64], pen: Pen, reader: Reader, line: &[u8]) -> Turn
-    requires { (length m.old ≡ WORDS) × (Roomy pen line.now) }
+fn write_plain(m: &mut [u64; WORDS], pen: Pen, reader: Reader, line: &[u8]) -> Turn
+    requires { Roomy pen line.now }
     ensures { Writes (plain reader line.now) (page m.old pen) m.new result }
 {
     match reader {
@@ -67,8 +67,8 @@ fn write_plain(m: &mut [u64], pen: Pen, reader: Reader, line: &[u8]) -> Turn
 }
 
 // A data line outside a list: a statement, or blanks.
-fn write_statement(m: &mut [u64], pen: Pen, line: &[u8]) -> Turn
-    requires { (length m.old ≡ WORDS) × (Roomy pen line.now) }
+fn write_statement(m: &mut [u64; WORDS], pen: Pen, line: &[u8]) -> Turn
+    requires { Roomy pen line.now }
     ensures { Writes (stated line.now (head line.now)) (page m.old pen) m.new result }
 {
     match read_head(line) {

@@ -2,20 +2,8 @@
 use native.Mathlib.Omega.{arith}
 use Rattle.words.proofs.Each.{words_of}
 use Rattle.layout.proofs.Sound.{sound-of}
-use Rattle.loading.proofs.Adding.{leaves, admits, sized, added-put}
+use Rattle.loading.proofs.Adding.{leaves, admits, added-put}
 use Rattle.loading.proofs.load.add.Goals as goal
-
-pub bounds-pool-0 : goal.bounds-pool-0
-bounds-pool-0 c = omega (arith, (sound-of _ c.requires.undamaged).sizes.words)
-
-pub bounds-pool-1 : goal.bounds-pool-1
-bounds-pool-1 c = omega (arith, (sound-of _ c.requires.undamaged).sizes.words)
-
-pub bounds-pool-2 : goal.bounds-pool-2
-bounds-pool-2 c = omega (arith, (sound-of _ c.requires.undamaged).sizes.words)
-
-pub bounds-pool-3 : goal.bounds-pool-3
-bounds-pool-3 c = omega (arith, (sound-of _ c.requires.undamaged).sizes.words)
 
 pub pen_behind-pen-requires : goal.pen_behind-pen-requires
 pen_behind-pen-requires c =
@@ -30,7 +18,7 @@ overflow_add-label c = omega (arith, (leaves _ _ _ _ _ _ c.requires).statements,
 
 pub write_text-requires : goal.write_text-requires
 write_text-requires c =
-    (sized _ _ _ _ _ _ c.requires _ c.store.ensures, admits _ _ _ _ _ _ c.requires _ c.pen_behind-pen.ensures)
+    admits _ _ _ _ _ _ c.requires _ c.pen_behind-pen.ensures
 
 pub overflow_add-texts-2 : goal.overflow_add-texts-2
 overflow_add-texts-2 c = omega (arith, (leaves _ _ _ _ _ _ c.requires).texts)
@@ -46,4 +34,4 @@ overflow_add-spelled c = omega (arith, (leaves _ _ _ _ _ _ c.requires).bytes)
 
 pub returns : goal.returns
 returns c =
-    added-put _ _ _ _ _ _ c.requires (words_of c.args.pool.now (λ i. omega (arith, c.slice_known-1.given i))) _ _ _ _ _ c.pen_behind-pen.ensures c.store.ensures c.write_text.ensures c.write_front.ensures
+    added-put _ _ _ _ _ _ c.requires (words_of c.args.pool.now (λ i. omega (arith, c.fits-pool i))) _ _ _ _ _ c.pen_behind-pen.ensures c.store.ensures c.write_text.ensures c.write_front.ensures

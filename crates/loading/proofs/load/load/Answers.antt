@@ -38,14 +38,22 @@ returns-then-not-has_room c =
     let r = c.has_room.ensures _ (text-counted _ _ _ t) in
     rw c.into-then-not-has_room.ensures (no_room _ _ _ (sym c.in_ok-test_closed.ensures) (sym c.is_held.ensures ∙ c.if-is_held.false) c.if-text-gt-LONGEST_LOAD.false _ t _ r c.if-not-has_room.true)
 
+-- an undamaged pool has as many words as the array
+pub unreachable-requires : goal.unreachable-requires
+unreachable-requires c =
+    let z = (sound-of _ (closed-sound _ (sym c.in_ok-test_closed.ensures))).sizes.words in
+    (rw c.in_default.is at c.as_mut_array.ensures.cases) z
+
 pub add-requires : goal.add-requires
 add-requires c =
     let t = sym c.check.ensures ∙ c.in-Ok.is in
     let r = c.has_room.ensures _ (text-counted _ _ _ t) in
-    accepts _ _ _ (sym c.in_ok-test_closed.ensures) (sym c.is_held.ensures ∙ c.if-is_held.false) c.if-text-gt-LONGEST_LOAD.false _ t _ r c.if-not-has_room.false
+    let s = (rw c.in-Some.is at c.as_mut_array.ensures.cases).same in
+    rw s (accepts _ _ _ (sym c.in_ok-test_closed.ensures) (sym c.is_held.ensures ∙ c.if-is_held.false) c.if-text-gt-LONGEST_LOAD.false _ t _ r c.if-not-has_room.false)
 
 pub returns : goal.returns
 returns c =
     let t = sym c.check.ensures ∙ c.in-Ok.is in
     let r = c.has_room.ensures _ (text-counted _ _ _ t) in
-    done _ _ _ (sym c.in_ok-test_closed.ensures) (sym c.is_held.ensures ∙ c.if-is_held.false) c.if-text-gt-LONGEST_LOAD.false _ t _ r c.if-not-has_room.false _ c.add.ensures
+    let s = (rw c.in-Some.is at c.as_mut_array.ensures.cases).same in
+    done _ _ _ (sym c.in_ok-test_closed.ensures) (sym c.is_held.ensures ∙ c.if-is_held.false) c.if-text-gt-LONGEST_LOAD.false _ t _ r c.if-not-has_room.false _ (rw s at c.add.ensures)

@@ -3,4 +3,4 @@ use Rattle.page.proofs.store.store_string.Goals as goal
 
 pub returns : goal.returns
 returns c =
-    rw (c.store.ensures, c.write_string.ensures, c.requires.2.bytes)
+    rw (c.store.ensures, c.write_string.ensures, c.requires.1.bytes)

@@ -3,7 +3,7 @@ use Rattle.writing.proofs.Giving.{list_tells, list-turns}
 use Rattle.writing.proofs.give.give_list.Goals as goal
 
 pub tell-requires : goal.tell-requires
-tell-requires c = list_tells _ _ _ _ _ _ _ c.requires.1 c.store_items-stored.ensures
+tell-requires c = list_tells _ _ _ _ _ _ _ c.requires c.store_items-stored.ensures
 
 pub returns : goal.returns
 returns c = list-turns _ _ _ _ _ _ _ _ _ _ c.store_items-stored.ensures c.tell.ensures c.after_list.ensures

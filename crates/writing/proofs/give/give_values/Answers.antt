@@ -24,13 +24,12 @@ returns-in_default c = λ s vs e.
 
 pub store_word-stored-requires : goal.store_word-stored-requires
 store_word-stored-requires c =
-    let p = c.requires in
-    (p.0, ready-stretches _ _ p.1, found-value _ _ _ (sym c.read_value.ensures ∙ c.in-Ok.is))
+    (ready-stretches _ _ c.requires, found-value _ _ _ (sym c.read_value.ensures ∙ c.in-Ok.is))
 
 pub tell-requires : goal.tell-requires
 tell-requires c =
     let h = stored-head (value_of c.args.line.now c.in-Ok.word) (page c.args.m.now c.args.pen) in
-    one-tells _ _ _ _ _ c.requires.1 c.store_word-stored.ensures h.0 h.1
+    one-tells _ _ _ _ _ c.requires c.store_word-stored.ensures h.0 h.1
 
 pub returns : goal.returns
 returns c =

@@ -27,14 +27,13 @@ returns-in-Err c =
 
 pub store_word-last-requires : goal.store_word-last-requires
 store_word-last-requires c =
-    let p = c.requires in
     let q = rw c.in-Ok-Value.field-0-is at c.in-Ok-Value.is in
-    (c.loop-given.invariant.long ∙ p.0, stretches _ _ _ _ _ _ _ _ _ _ _ c.loop-given.invariant p.1.long, found-item _ _ _ _ (sym c.next_item.ensures ∙ q))
+    (stretches _ _ _ _ _ _ _ _ _ _ _ c.loop-given.invariant c.requires.long, found-item _ _ _ _ (sym c.next_item.ensures ∙ q))
 
 pub overflow_add-bytes : goal.overflow_add-bytes
 overflow_add-bytes c =
     let q = rw c.in-Ok-Value.field-0-is at c.in-Ok-Value.is in
-    omega (arith, c.loop-given.invariant.short, c.loop-given.invariant.few, c.requires.1.long, c.long-bytes.ensures, short-item _ _ _ _ (sym c.next_item.ensures ∙ q))
+    omega (arith, c.loop-given.invariant.short, c.loop-given.invariant.few, c.requires.long, c.long-bytes.ensures, short-item _ _ _ _ (sym c.next_item.ensures ∙ q))
 
 pub loop-given-preserved : goal.loop-given-preserved
 loop-given-preserved c =
@@ -48,7 +47,7 @@ loop-given-preserved c =
     let t : 0 < n - l.given = omega (arith, c.loop-given-test.true) in
     rw (z, c.kind_of-kind.ensures, c.end-i.ensures)
     (one_more _ _ _ _ _ _ _ _ _ _ _ c.loop-given.invariant (value_of line c.in-Ok-Value.word) _ _ t (next-left _ _ _ _ t _ c.next_item.ensures (Ok (I.Value _)) q)
-    _ (ap (λ (k : ℕ). l.bytes + k) (c.long-bytes.ensures ∙ sym b)) (omega (arith, b, short-item _ _ _ _ e)) _ _ c.store_word-last.ensures c.store_word-last.auto.m)
+    _ (ap (λ (k : ℕ). l.bytes + k) (c.long-bytes.ensures ∙ sym b)) (omega (arith, b, short-item _ _ _ _ e)) _ _ c.store_word-last.ensures)
 
 pub returns : goal.returns
 returns c =

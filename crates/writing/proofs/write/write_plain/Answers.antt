@@ -10,5 +10,4 @@ returns-in-Data c = λ s es e. c.write_statement.ensures s es (data-next _ _ s e
 
 pub returns-in-List : goal.returns-in-List
 returns-in-List c = λ s es e.
-    let p = c.requires in
-    list_written _ _ s es _ p.1 p.0 _ _ _ c.give_list.ensures (list-next _ _ s es _ c.in-List.is e)
+    list_written _ _ s es _ c.requires c.told-m _ _ _ c.give_list.ensures (list-next _ _ s es _ c.in-List.is e)

@@ -15,21 +15,19 @@ slice_bounds-open_statement-start c =
     let h = head-stands _ c.in-Ok-Some.head (sym c.read_head.ensures ∙ (rw c.in-Ok-Some.field-0-is at c.in-Ok-Some.is)) in
     omega (arith, h.starts)
 
-pub slice_bounds-open_statement-end : goal.slice_bounds-open_statement-end
-slice_bounds-open_statement-end c =
+pub slice_bounds-open_statement-end-in-Ok-Some : goal.slice_bounds-open_statement-end-in-Ok-Some
+slice_bounds-open_statement-end-in-Ok-Some c =
     let h = head-stands _ c.in-Ok-Some.head (sym c.read_head.ensures ∙ (rw c.in-Ok-Some.field-0-is at c.in-Ok-Some.is)) in
     omega (arith, h.ends)
 
 pub give_values-requires : goal.give_values-requires
 give_values-requires c =
-    let p = c.requires in
-    (c.open_statement-opened.auto.m ∙ p.0, opened-ready _ _ _ _ _ _ _ p.1 c.open_statement-opened.ensures)
+    opened-ready _ _ _ _ _ _ _ c.requires c.open_statement-opened.ensures
 
 pub returns-in-Ok-Some : goal.returns-in-Ok-Some
 returns-in-Ok-Some c = λ s es e.
-    let p = c.requires in
     let q = sym c.read_head.ensures ∙ (rw c.in-Ok-Some.field-0-is at c.in-Ok-Some.is) in
-    statement-written _ _ s es _ p.1 p.0 _ _ _ _ _ c.open_statement-opened.ensures c.give_values.ensures (rw q at e)
+    statement-written _ _ s es _ c.requires c.told-m _ _ _ _ _ c.open_statement-opened.ensures c.give_values.ensures (rw q at e)
 
 pub returns-in-Ok-None : goal.returns-in-Ok-None
 returns-in-Ok-None c = λ s es e.

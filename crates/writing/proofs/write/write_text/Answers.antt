@@ -1,11 +1,10 @@
 -- `write_text` meets its contract: what is left to write onto this page is what was to be written onto the first. Assumes nothing.
 use native.Mathlib.Omega.{arith}
-use mathlib.Core.Path.{◌∙◌}
 use Rattle.writing.proofs.Passes.{at_first, roomy, one_more, at_last}
 use Rattle.writing.proofs.write.write_text.Goals as goal
 
 pub loop-at-init : goal.loop-at-init
-loop-at-init c = at_first _ _ _ c.requires.1
+loop-at-init c = at_first _ _ _ c.requires
 
 pub slice_bounds-write_line-count : goal.slice_bounds-write_line-count
 slice_bounds-write_line-count c = omega (arith, c.cut_line-cut.ensures.starts)
@@ -18,8 +17,7 @@ slice_bounds-write_line-end c = omega (arith, c.cut_line-cut.ensures.ends, c.cut
 
 pub write_line-turn-requires : goal.write_line-turn-requires
 write_line-turn-requires c =
-    let p = c.requires in
-    (c.loop-at.invariant.keeps ∙ p.0, roomy _ _ _ _ _ _ _ c.loop-at.invariant _ c.cut_line-cut.ensures p.1.long)
+    roomy _ _ _ _ _ _ c.loop-at.invariant _ c.cut_line-cut.ensures c.requires.long
 
 pub loop-at-smaller : goal.loop-at-smaller
 loop-at-smaller c =
@@ -27,10 +25,7 @@ loop-at-smaller c =
 
 pub loop-at-preserved : goal.loop-at-preserved
 loop-at-preserved c =
-    one_more _ _ _ _ _ _ _ c.loop-at.invariant _ c.cut_line-cut.ensures _ _ c.write_line-turn.auto.m c.write_line-turn.ensures
-
-pub shape_of-m : goal.shape_of-m
-shape_of-m c = c.loop-at.invariant.keeps
+    one_more _ _ _ _ _ _ c.loop-at.invariant _ c.cut_line-cut.ensures _ _ c.write_line-turn.ensures
 
 pub returns : goal.returns
-returns c = at_last _ _ _ _ _ _ _ c.loop-at.invariant c.loop-at-test.false
+returns c = at_last _ _ _ _ _ _ c.loop-at.invariant c.loop-at-test.false

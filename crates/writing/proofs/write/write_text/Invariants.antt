@@ -7,7 +7,7 @@ use Rattle.writing.proofs.Passes.{Passes}
 use Rattle.writing.proofs.write.write_text.Given as goal
 
 abbrev pub invariant-loop-at : goal.invariant-loop-at
-invariant-loop-at l = Passes l.text (written_on (added (read_text l.text)) (page l.initial.m l.initial.last)) (length l.initial.m) l.at l.m l.last l.reader
+invariant-loop-at l = Passes l.text (written_on (added (read_text l.text)) (page l.initial.m l.initial.last)) l.at l.m l.last l.reader
 
 abbrev pub decreases-loop-at : goal.decreases-loop-at
 decreases-loop-at l = length l.text + 1 - l.at
