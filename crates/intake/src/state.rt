@@ -10,10 +10,12 @@ use bookmark::mark::{Bookmark, Entered, Standing};
 use bookmark::read::read;
 use bookmark::settle::settle_reader;
 use bookmark::write::write;
+use layout::head::{holds_numbers, value_count};
 use layout::limits::{
     HALF, HEADS_AT, OPEN_AT, STATEMENT_COUNT, TEXT_COUNT, TEXTS_AT, VALUE_COUNT, VALUES_AT,
 };
 use statement::values::Reader;
+use words::half::{lower, upper};
 use words::read::part_of;
 use words::write::store;
 
@@ -26,7 +28,7 @@ pub fn open_in(pool: &[u64]) -> Bookmark
     ensures { Finds pool.now result }
 {
     let texts = pool[TEXT_COUNT] as usize;
-    let statements = (pool[TEXTS_AT + texts] % HALF) as usize;
+    let statements = lower(pool[TEXTS_AT + texts]) as usize;
     let b = read(part_of(pool, OPEN_AT, OPENWORDS), statements);
     let settled = borne(pool, b.entered);
     Bookmark {
@@ -60,10 +62,10 @@ fn borne_reader(pool: &[u64], entered: Entered, reader: Reader) -> Reader
     }
     let heads = HEADS_AT + (pool[STATEMENT_COUNT] as usize) + entered.statements;
     let head = pool[heads - 1];
-    if head / HALF / 2 != 0 {
+    if !holds_numbers(head) {
         return settle_reader(true, true, false, reader);
     }
-    if head % HALF != 1 {
+    if value_count(head) != 1 {
         return settle_reader(true, false, false, reader);
     }
     let values = VALUES_AT + (pool[VALUE_COUNT] as usize) + entered.values;
@@ -76,7 +78,7 @@ pub fn label_in(pool: &[u64]) -> u64
     ensures { result ≡ open_label pool.now }
 {
     let texts = pool[TEXT_COUNT] as usize;
-    pool[TEXTS_AT + texts] / HALF
+    upper(pool[TEXTS_AT + texts])
 }
 
 // Its word behind those of the held texts, and the words that keep where it stands, are written.

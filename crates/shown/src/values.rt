@@ -6,7 +6,7 @@ ghost use Rattle.variables.specs.Variables.{number, each};
 ghost use Rattle.shown.specs.Shown.{value_lines};
 ghost use Rattle.shown.specs.Shows.{listed, lines_of, Valuing, lines, Telling, Passing, stated, Stating, spelt, Spelling};
 
-use layout::limits::HALF;
+use layout::head::{holds_numbers, value_count};
 use layout::taken::sum_bytes;
 use layout::undamaged::Undamaged;
 use names::pack::pack;
@@ -18,9 +18,6 @@ use variables::legal::Legal;
 use variables::name::is_named;
 use variables::walk::{Start, walk};
 use words::read::part_of;
-
-// A head's upper number is kind · 2 + operator: the kind's number of numbers.
-const NUMBERS: u64 = 0;
 
 // The values of the variables at these places.
 pub fn show_values(pool: Undamaged, places: &[usize], out: &mut [u8], at: usize) -> usize
@@ -64,7 +61,7 @@ fn show_statements(pool: Undamaged, name: Legal, start: Start, out: &mut [u8], a
         if is_named(names, s, &words) {
             end = show_statement(pool, s, value, out, end);
         }
-        value += (heads[s] % HALF) as usize;
+        value += value_count(heads[s]);
     }
     end
 }
@@ -77,8 +74,8 @@ fn show_statement(pool: Undamaged, s: usize, value: usize, out: &mut [u8], at: u
     let heads = pool.heads();
     let values = pool.values();
     let head = heads[s];
-    let words = part_of(values, value, (head % HALF) as usize);
-    if head / HALF / 2 == NUMBERS {
+    let words = part_of(values, value, value_count(head));
+    if holds_numbers(head) {
         return show_numbers(words, out, at);
     }
     let from = sum_bytes(&heads[..s], values) as usize;

@@ -1,5 +1,6 @@
 -- `show_statement` meets its contract: the kind decides whether the words are numbers' bits or strings' lengths. Assumes nothing.
 use native.Mathlib.Omega.{arith}
+use borrow.Author.Tests.{eqb-false}
 use Rattle.shown.proofs.Stated.{held, words-within, counted, spelling, writes-strings}
 use Rattle.shown.proofs.values.show_statement.Goals as goal
 
@@ -13,7 +14,7 @@ bounds-heads-s c =
 
 pub part_of-words-requires : goal.part_of-words-requires
 part_of-words-requires c =
-    words-within _ _ _ _ _ c.requires c.args.pool.tested _ _ c.heads-heads.ensures c.values-values.ensures
+    rw c.value_count.ensures (words-within _ _ _ _ _ c.requires c.args.pool.tested _ _ c.heads-heads.ensures c.values-values.ensures)
 
 pub sum_bytes-from-requires : goal.sum_bytes-from-requires
 sum_bytes-from-requires c =
@@ -21,10 +22,10 @@ sum_bytes-from-requires c =
 
 pub show_strings-requires : goal.show_strings-requires
 show_strings-requires c =
-    spelling _ _ _ _ _ c.requires c.args.pool.tested _ _ c.heads-heads.ensures c.values-values.ensures _ c.part_of-words.ensures c.if-head-eq-NUMBERS.false _ c.sum_bytes-from.ensures _
+    spelling _ _ _ _ _ c.requires c.args.pool.tested _ _ c.heads-heads.ensures c.values-values.ensures _ (rw c.value_count.ensures at c.part_of-words.ensures) (eqb-false _ _ (rw c.holds_numbers.ensures at c.if-holds_numbers.false)) _ c.sum_bytes-from.ensures _
     c.bytes.ensures
 
 pub returns : goal.returns
 returns c =
-    writes-strings _ _ _ _ _ c.requires c.args.pool.tested _ _ c.heads-heads.ensures c.values-values.ensures _ c.part_of-words.ensures c.if-head-eq-NUMBERS.false _ c.sum_bytes-from.ensures _
+    writes-strings _ _ _ _ _ c.requires c.args.pool.tested _ _ c.heads-heads.ensures c.values-values.ensures _ (rw c.value_count.ensures at c.part_of-words.ensures) (eqb-false _ _ (rw c.holds_numbers.ensures at c.if-holds_numbers.false)) _ c.sum_bytes-from.ensures _
     c.bytes.ensures c.show_strings.ensures

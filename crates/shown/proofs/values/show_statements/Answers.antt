@@ -24,7 +24,7 @@ loop-s-init c =
 pub overflow_add-value : goal.overflow_add-value
 overflow_add-value c =
     let v = c.loop-s.invariant in
-    omega (arith, values-end v.0 v.1 (omega (arith, c.loop-s-test.true, length-hands c.loop-s.invariant.0)), v.0.sound.sizes.values)
+    omega (arith, c.value_count-value.ensures, values-end v.0 v.1 (omega (arith, c.loop-s-test.true, length-hands c.loop-s.invariant.0)), v.0.sound.sizes.values)
 
 pub is_named-requires : goal.is_named-requires
 is_named-requires c = omega (arith, c.loop-s-test.true, length-hands c.loop-s.invariant.0, room-hands c.loop-s.invariant.0)
@@ -39,8 +39,8 @@ loop-s-preserved c =
     let v = c.loop-s.invariant in
     let here : c.loop-s.s < statement_count c.args.pool.words.now = omega (arith, c.loop-s-test.true, length-hands v.0) in
     elim c.if-is_named.branch [
-      | then-is_named w ↦ (v.0, rw (w.end-is, w.out-is) (told_more v.0 v.1 here _ c.is_named.ensures w.if-is_named.true w.show_statement-end.ensures))
-      | else-is_named w ↦ (v.0, rw (w.end-is, w.out-is) (told-other v.0 v.1 here _ c.is_named.ensures w.if-is_named.false))
+      | then-is_named w ↦ (v.0, rw (w.end-is, w.out-is, c.value_count-value.ensures) (told_more v.0 v.1 here _ c.is_named.ensures w.if-is_named.true w.show_statement-end.ensures))
+      | else-is_named w ↦ (v.0, rw (w.end-is, w.out-is, c.value_count-value.ensures) (told-other v.0 v.1 here _ c.is_named.ensures w.if-is_named.false))
     ]
 
 pub returns : goal.returns
