@@ -1,23 +1,23 @@
 // "The degree in BODYs_MAX_PHASE_DEGREE. Read it: absent means 1; otherwise one value, 1, 2 or 3."
 #![tactic(auto)]
 
-ghost use Rattle.std.specs.Prelude.{◌≡◌, ◌≤◌};
+ghost use Rattle.std.specs.Prelude.{◌≡◌};
 ghost use Rattle.rotation.specs.Elements.{CUBIC};
 ghost use Rattle.layout.specs.Memory.{decode};
-ghost use Rattle.wanted.specs.Names.{LARGEST};
 ghost use Rattle.degree.specs.Degree.{announced, system_degree, degree_where};
 
 use layout::undamaged::Undamaged;
 use rotation::nutation::{CUBIC, LINEAR};
 use variables::variable::FindError;
+use wanted::code::Code;
 use wanted::elements;
 use wanted::name::Wanted;
 
 // The degree of a system's angles; it is not looked at, if it is not wanted.
-pub fn find(pool: Undamaged, system: u32, wanted: bool) -> Option<usize>
-    requires { system ≤ LARGEST }
-    ensures { result ≡ degree_where wanted (decode pool.entry.words.now) system }
+pub fn find(pool: Undamaged, system: Code, wanted: bool) -> Option<usize>
+    ensures { result ≡ degree_where wanted (decode pool.entry.words.now) system.number }
 {
+    // a flag, for tested here it gives the caller one fact for both ways: `degree_where`
     if wanted {
         read(pool, system)
     } else {
@@ -26,9 +26,8 @@ pub fn find(pool: Undamaged, system: u32, wanted: bool) -> Option<usize>
 }
 
 // None where what is announced is no degree: another value or count, or a string.
-fn read(pool: Undamaged, system: u32) -> Option<usize>
-    requires { system ≤ LARGEST }
-    ensures { result ≡ system_degree (decode pool.entry.words.now) system }
+fn read(pool: Undamaged, system: Code) -> Option<usize>
+    ensures { result ≡ system_degree (decode pool.entry.words.now) system.number }
 {
     let mut xs = [0.0; 1];
     let found = elements::find(pool, system, Wanted::MaxPhaseDegree, &mut xs);

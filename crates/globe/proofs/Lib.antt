@@ -1,4 +1,3 @@
 -- Laws behind the answers.
 pub mod Ordered
-pub mod Codes
 pub mod Axes

@@ -1,15 +1,14 @@
 // Radii from a pool: 15, 10, 16, 12, 24, or three values.
-ghost use Rattle.std.specs.Prelude.{◌≡◌, ◌≤◌};
+ghost use Rattle.std.specs.Prelude.{◌≡◌};
 ghost use Rattle.layout.specs.Memory.{decode};
 ghost use Rattle.globe.specs.declared.source.Source.TheVariants as Source;
-ghost use Rattle.wanted.specs.Names.{LARGEST};
 ghost use Rattle.globe.specs.Radii.{radii_reply, radii_from, radii_of, admitted};
 
 use layout::undamaged::Undamaged;
 use refusal::Refusal;
-use rotation::code;
 use rotation::table::Axes;
 use variables::variable::FindError;
+use wanted::code::{Body, Code};
 use wanted::elements;
 use wanted::name::Wanted;
 
@@ -27,14 +26,13 @@ pub fn from_pool(pool: &[u64], code: u32) -> Result<Axes, Refusal>
 fn by_code(pool: Undamaged, code: u32) -> Result<Axes, Refusal>
     ensures { result ≡ radii_from (decode pool.entry.words.now) code }
 {
-    let _system = code::system_of(code).ok_or(Refusal::UnknownBody)?;
-    of_body(pool, code)
+    let body = Body::of(code).ok_or(Refusal::UnknownBody)?;
+    of_body(pool, body.code)
 }
 
 // "BODYn_RADII absent: 10; not three values: 12.", and 16 for a string just before 12.
-fn of_body(pool: Undamaged, code: u32) -> Result<Axes, Refusal>
-    requires { code ≤ LARGEST }
-    ensures { result ≡ radii_of (decode pool.entry.words.now) code }
+fn of_body(pool: Undamaged, code: Code) -> Result<Axes, Refusal>
+    ensures { result ≡ radii_of (decode pool.entry.words.now) code.number }
 {
     let mut xs = [0.0; 3];
     let found = elements::find(pool, code, Wanted::Radii, &mut xs);

@@ -1,12 +1,12 @@
 // The answer for a body whose pole and meridian are there: 11, 23, 16 or 12, or document 01's evaluation.
-ghost use Rattle.std.specs.Prelude.{◌≡◌, ◌≤◌, take};
+ghost use Rattle.std.specs.Prelude.{◌≡◌, take};
 ghost use Rattle.rotation.specs.Evaluation.{evaluated};
 ghost use Rattle.layout.specs.Memory.{decode};
-ghost use Rattle.wanted.specs.Names.{LARGEST};
 ghost use Rattle.nutation.specs.Answer.{Fronts, by_nutation};
 
+use crate::found::{Found, find_angles};
+use crate::terms;
 use crate::terms::{ANGLES, COEFFICIENTS, Lengths};
-use crate::{found, terms};
 use layout::undamaged::Undamaged;
 use refusal::Refusal;
 use rotation::elements::Elements;
@@ -14,6 +14,7 @@ use rotation::evaluation;
 use rotation::matrix::Orientation;
 use rotation::nutation::Nutation;
 use variables::variable::FindError;
+use wanted::code::Body;
 use wanted::elements;
 use wanted::name::Wanted;
 use wanted::outcome::is_mixed;
@@ -21,25 +22,28 @@ use wanted::outcome::is_mixed;
 // `base` is what pole and meridian came to: a string in one of the three, or a miscount, is told in its turn.
 pub fn by_nutation(
     pool: Undamaged,
-    code: u32,
-    system: u32,
+    body: Body,
     epoch: f64,
     base: Result<Elements, FindError>,
 ) -> Result<Orientation, Refusal>
-    requires { (code ≤ LARGEST) × (system ≤ LARGEST) }
-    ensures { result ≡ by_nutation (decode pool.entry.words.now) code system epoch base }
+    ensures { result ≡ by_nutation (decode pool.entry.words.now) body.code.number body.system.number epoch base }
 {
     let mut ra = [0.0; COEFFICIENTS];
     let mut dec = [0.0; COEFFICIENTS];
     let mut pm = [0.0; COEFFICIENTS];
     let mut angles = [0.0; ANGLES];
-    let r = elements::find(pool, code, Wanted::NutPrecRa, &mut ra);
-    let d = elements::find(pool, code, Wanted::NutPrecDec, &mut dec);
-    let p = elements::find(pool, code, Wanted::NutPrecPm, &mut pm);
-    let wanted = found::any_there(r, d, p);
-    let a = found::find_angles(pool, system, wanted, &mut angles);
-    let degree = degree::find(pool, system, wanted);
-    let lengths = terms::judge(degree, is_mixed(base), a, r, d, p)?;
+    let r = elements::find(pool, body.code, Wanted::NutPrecRa, &mut ra);
+    let d = elements::find(pool, body.code, Wanted::NutPrecDec, &mut dec);
+    let p = elements::find(pool, body.code, Wanted::NutPrecPm, &mut pm);
+    let found = Found {
+        ra: r,
+        dec: d,
+        pm: p,
+    };
+    let wanted = found.any_there();
+    let a = find_angles(pool, body.system, wanted, &mut angles);
+    let degree = degree::find(pool, body.system, wanted);
+    let lengths = terms::judge(degree, is_mixed(base), a, found)?;
     let Ok(e) = base else {
         return Err(Refusal::WrongCount);
     };

@@ -5,7 +5,7 @@ ghost use Rattle.wanted.specs.Elements.{enough_groups};
 ghost use Rattle.degree.specs.Degree.{Low};
 ghost use Rattle.nutation.specs.Terms.{count_of, counted_of, terms_of};
 
-use crate::found::any_mixed;
+use crate::found::Found;
 use refusal::Refusal;
 use variables::variable::FindError;
 use wanted::outcome::is_there;
@@ -26,17 +26,15 @@ pub struct Lengths {
 }
 
 // Angles that are wanted and absent come before a bad degree, this before a string, of which `mixed` tells where pole or meridian has one,
-// and this before the counts.
+// and this before the counts. (`mixed` is a flag, for of pole and meridian no more than that is asked here.)
 pub fn judge(
     degree: Option<usize>,
     mixed: bool,
     angles: Result<usize, FindError>,
-    ra: Result<usize, FindError>,
-    dec: Result<usize, FindError>,
-    pm: Result<usize, FindError>,
+    found: Found,
 ) -> Result<Lengths, Refusal>
     requires { Low degree }
-    ensures { result ≡ terms_of degree mixed angles ra dec pm }
+    ensures { result ≡ terms_of degree mixed angles found.ra found.dec found.pm }
 {
     if !is_there(angles) {
         return Err(Refusal::Incomplete);
@@ -44,22 +42,16 @@ pub fn judge(
     let Some(d) = degree else {
         return Err(Refusal::BadDegree);
     };
-    if mixed || any_mixed(angles, ra, dec, pm) {
+    if mixed || found.any_mixed(angles) {
         return Err(Refusal::MixedKind);
     }
-    count(d, angles, ra, dec, pm)
+    count(d, angles, found)
 }
 
 // More angles than the buffer holds are more than there may be of any degree.
-fn count(
-    degree: usize,
-    angles: Result<usize, FindError>,
-    ra: Result<usize, FindError>,
-    dec: Result<usize, FindError>,
-    pm: Result<usize, FindError>,
-) -> Result<Lengths, Refusal>
+fn count(degree: usize, angles: Result<usize, FindError>, found: Found) -> Result<Lengths, Refusal>
     requires { degree ≤ CUBIC }
-    ensures { result ≡ counted_of degree angles ra dec pm }
+    ensures { result ≡ counted_of degree angles found.ra found.dec found.pm }
 {
     let Ok(values) = angles else {
         return Err(Refusal::WrongCount);
@@ -67,9 +59,9 @@ fn count(
     let lengths = Lengths {
         degree,
         angles: values,
-        ra: count_of(ra),
-        dec: count_of(dec),
-        pm: count_of(pm),
+        ra: count_of(found.ra),
+        dec: count_of(found.dec),
+        pm: count_of(found.pm),
     };
     if is_enough(lengths) {
         Ok(lengths)

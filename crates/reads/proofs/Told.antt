@@ -20,13 +20,13 @@ none A.Orientation n e = rw e
 none A.Radii n e = rw e
 
 module _ (n s : ℕ) (e : system_of n ≡ Some s) where
-  pub of-orientation : orientation_names n (Some s) ≡ listed A.Orientation n
+  pub of-orientation : {m : ℕ} → m ≡ n → orientation_names m (Some s) ≡ listed A.Orientation n
   unfolding listed
-  of-orientation = rw e
+  of-orientation f = rw (f, e)
 
-  pub of-radii : radii_names n (Some s) ≡ listed A.Radii n
+  pub of-radii : {m : ℕ} → m ≡ n → radii_names m (Some s) ≡ listed A.Radii n
   unfolding listed
-  of-radii = rw e
+  of-radii f = rw (f, e)
 
 module _ (asked : Asked) (n place : ℕ) {m : List ℕ} where
   tells : {r : ℕ} {o xs : List ℕ} → xs ≡ told asked n place (length m) → Writes 0 xs m r o → Tells asked n place m r o

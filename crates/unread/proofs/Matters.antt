@@ -38,7 +38,7 @@ use Rattle.degree.specs.Degree.{degree, degree_where}
 use Rattle.globe.specs.Orientation.{by_degree, by_elements, orientation_from}
 use Rattle.globe.specs.Radii.{axes, all_positive, radii_from}
 use Rattle.globe.specs.declared.source.Source.TheVariants as S
-use Rattle.globe.proofs.Codes.{short-code}
+use Rattle.wanted.proofs.Codes.{short-code}
 use Rattle.promises.specs.Sentence.{onto, forward}
 use Rattle.promises.specs.Calls as C
 use Rattle.promises.specs.Calls.{asked, library}

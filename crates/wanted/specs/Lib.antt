@@ -1,5 +1,4 @@
 -- "Elements wanted": names, what a pool has for a body, and the steps from what was found to an answer.
 pub mod Names
-pub mod Spelling
 pub mod Elements
 pub mod Steps

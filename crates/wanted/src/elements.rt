@@ -1,10 +1,10 @@
 // "Elements wanted": the variables of a body in an undamaged pool, and the polynomials of pole and meridian.
-ghost use Rattle.std.specs.Prelude.{◌≡◌, ◌+◌, ◌≤◌};
+ghost use Rattle.std.specs.Prelude.{◌≡◌, ◌+◌};
 ghost use Rattle.layout.specs.Memory.{decode};
 ghost use Rattle.wanted.specs.Elements.{there, numeric, list};
-ghost use Rattle.wanted.specs.Names.{LARGEST};
 ghost use Rattle.wanted.specs.Steps.{LooksFor, values_of, presence, base_of};
 
+use super::code::Code;
 use super::name;
 use super::name::Wanted;
 use super::outcome::{is_mixed, is_there};
@@ -14,9 +14,13 @@ use statement::head::NAME;
 use variables::variable::{FindError, variable};
 
 // A body's variable is written into the buffer's start, if it is there and has room.
-pub fn find(pool: Undamaged, code: u32, wanted: Wanted, out: &mut [f64]) -> Result<usize, FindError>
-    requires { code ≤ LARGEST }
-    ensures { LooksFor pool.entry.words.now code wanted out.old result out.new }
+pub fn find(
+    pool: Undamaged,
+    code: Code,
+    wanted: Wanted,
+    out: &mut [f64],
+) -> Result<usize, FindError>
+    ensures { LooksFor pool.entry.words.now code.number wanted out.old result out.new }
 {
     let mut name = [0u8; NAME];
     let n = name::spell(code, wanted, &mut name);
@@ -24,10 +28,9 @@ pub fn find(pool: Undamaged, code: u32, wanted: Wanted, out: &mut [f64]) -> Resu
 }
 
 // A body's polynomial, of "1 to 3 values": those that are missing are 0, and of another number it is one of too many.
-pub fn polynomial_of(pool: Undamaged, code: u32, wanted: Wanted) -> Result<Polynomial, FindError>
-    requires { code ≤ LARGEST }
-    ensures { result ≡ values_of (there (decode pool.entry.words.now) code wanted) (numeric (decode pool.entry.words.now) code wanted)
-        (list (decode pool.entry.words.now) code wanted) }
+pub fn polynomial_of(pool: Undamaged, code: Code, wanted: Wanted) -> Result<Polynomial, FindError>
+    ensures { result ≡ values_of (there (decode pool.entry.words.now) code.number wanted) (numeric (decode pool.entry.words.now) code.number wanted)
+        (list (decode pool.entry.words.now) code.number wanted) }
 {
     let mut xs = [0.0; 3];
     let n = find(pool, code, wanted, &mut xs)?;

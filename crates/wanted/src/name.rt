@@ -1,9 +1,10 @@
 // "With n the code, the variables are BODYn_POLE_RA ..": the name of a variable, spelled into bytes.
 ghost use Rattle.std.specs.Prelude.{◌≡◌, ◌+◌, ◌≤◌, length};
-ghost use Rattle.wanted.specs.Names.{LARGEST, FIGURES, SUFFIX, numeral, suffix, figure, name_of};
-ghost use Rattle.wanted.specs.Spelling.{Spellable};
+ghost use Rattle.statement.specs.Head.{NAME};
+ghost use Rattle.wanted.specs.Names.{FIGURES, SUFFIX, numeral, suffix, figure, name_of};
 ghost use Rattle.words.specs.Placed.{Writes};
 
+use super::code::Code;
 use words::bytes::append;
 
 // The variables that a body's answers are made of.
@@ -21,9 +22,9 @@ pub enum Wanted {
 }
 
 // The name is written from the start; the answer is its length.
-pub fn spell(code: u32, wanted: Wanted, out: &mut [u8]) -> usize
-    requires { Spellable code out.old }
-    ensures { Writes 0 (name_of code wanted) out.old result out.new }
+pub fn spell(code: Code, wanted: Wanted, out: &mut [u8]) -> usize
+    requires { NAME ≤ length out.old }
+    ensures { Writes 0 (name_of code.number wanted) out.old result out.new }
 {
     let after_body = append(b"BODY", out, 0);
     let after_code = append_code(code, out, after_body);
@@ -31,21 +32,22 @@ pub fn spell(code: u32, wanted: Wanted, out: &mut [u8]) -> usize
 }
 
 // The code in figures, without leading zeros.
-fn append_code(code: u32, out: &mut [u8], at: usize) -> usize
-    requires { (code ≤ LARGEST) × (at + FIGURES ≤ length out.old) }
-    ensures { Writes at (numeral code) out.old result out.new }
+fn append_code(code: Code, out: &mut [u8], at: usize) -> usize
+    requires { at + FIGURES ≤ length out.old }
+    ensures { Writes at (numeral code.number) out.old result out.new }
 {
-    if code < 10 {
-        return append(&[figure_of(code)], out, at);
+    let n = code.number;
+    if n < 10 {
+        return append(&[figure_of(n)], out, at);
     }
-    if code < 100 {
-        return append(&[figure_of(code / 10), figure_of(code % 10)], out, at);
+    if n < 100 {
+        return append(&[figure_of(n / 10), figure_of(n % 10)], out, at);
     }
     append(
         &[
-            figure_of(code / 100),
-            figure_of(code / 10 % 10),
-            figure_of(code % 10),
+            figure_of(n / 100),
+            figure_of(n / 10 % 10),
+            figure_of(n % 10),
         ],
         out,
         at,

@@ -27,19 +27,19 @@ tallied s n e f g h = rw (e, f, g, h)
 pub returns-then-held-eq0 : goal.returns-then-held-eq0
 returns-then-held-eq0 c =
     let a = c.args in
-    let t = tallied (decode a.pool.words.now) a.code c.count_held-held.ensures c.polynomial_of-ra.ensures c.polynomial_of-dec.ensures c.polynomial_of-pm.ensures in
+    let t = tallied (decode a.pool.words.now) a.body.code.number c.count_held-held.ensures c.polynomial_of-ra.ensures c.polynomial_of-dec.ensures c.polynomial_of-pm.ensures in
     none-there _ _ _ _ (rw (← t) c.if-held-eq0.true)
 
 pub returns-then-held-lt3 : goal.returns-then-held-lt3
 returns-then-held-lt3 c =
     let a = c.args in
-    let t = tallied (decode a.pool.words.now) a.code c.count_held-held.ensures c.polynomial_of-ra.ensures c.polynomial_of-dec.ensures c.polynomial_of-pm.ensures in
+    let t = tallied (decode a.pool.words.now) a.body.code.number c.count_held-held.ensures c.polynomial_of-ra.ensures c.polynomial_of-dec.ensures c.polynomial_of-pm.ensures in
     some-missing _ _ _ _ (rw (← t) (omega arith)) (rw (← t) c.if-held-lt3.true)
 
 pub returns : goal.returns
 returns c =
     let a = c.args in
-    let t = tallied (decode a.pool.words.now) a.code c.count_held-held.ensures c.polynomial_of-ra.ensures c.polynomial_of-dec.ensures c.polynomial_of-pm.ensures in
+    let t = tallied (decode a.pool.words.now) a.body.code.number c.count_held-held.ensures c.polynomial_of-ra.ensures c.polynomial_of-dec.ensures c.polynomial_of-pm.ensures in
     rw (
       c.by_nutation.ensures,
       c.assemble-base.ensures,
@@ -47,4 +47,4 @@ returns c =
       c.polynomial_of-dec.ensures,
       c.polynomial_of-pm.ensures,
     )
-    (all_there (decode a.pool.words.now) a.code a.system a.epoch (rw (← t) c.if-held-lt3.false))
+    (all_there (decode a.pool.words.now) a.body.code.number a.body.system.number a.epoch (rw (← t) c.if-held-lt3.false))

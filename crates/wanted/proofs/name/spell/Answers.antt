@@ -6,7 +6,7 @@ use Rattle.wanted.proofs.Spelling.{numeral-length}
 use Rattle.wanted.proofs.name.spell.Goals as goal
 
 pub append_suffix-requires : goal.append_suffix-requires
-append_suffix-requires c = omega (arith, numeral-length c.args.code)
+append_suffix-requires c = omega (arith, numeral-length c.args.code.number)
 
 pub returns : goal.returns
 unfolding name_of
