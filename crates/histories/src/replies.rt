@@ -1,4 +1,5 @@
-// What a reply is told by: its number, line and column, each 0 for success.
+// What a reply is told by: its number, line and column, each 0 for success. One function for `line` and `column` would be no plainer: it would
+// have to be told the field.
 use pool::reply::Refused;
 
 pub fn number(reply: Result<(), Refused>) -> u32 {

@@ -23,7 +23,8 @@ pub fn order(names: &[u64], places: &mut [usize]) -> usize
     held
 }
 
-// The name at a place is put among the names held, unless it is one of them.
+// The name at a place is put among the names held, unless it is one of them. `held` stays beside `places`, for the place behind those held is
+// written.
 fn insert(names: &[u64], places: &mut [usize], held: usize, place: usize) -> usize
     requires { Inserting names.now held place places.old }
     ensures { Inserts names.now held place places.old result places.new }

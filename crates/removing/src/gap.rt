@@ -1,4 +1,4 @@
-// A text's gap in every area, and how it is closed.
+// A text's gap in every area, and how it is closed. The four gaps stay four functions, for each reads other areas; what they share is `gap_among`.
 ghost use Rattle.std.specs.Prelude.{◌≡◌, ◌+◌, ◌≤◌, length};
 ghost use Rattle.words.specs.Over.{part};
 ghost use Rattle.words.specs.Halves.{HALF, sum};

@@ -39,7 +39,7 @@ pub fn gather(pool: Undamaged, name: Legal, start: Start, out: &mut [f64])
     }
 }
 
-// The doubles of these bits are written from place `at` on.
+// The doubles of these bits are written from place `at` on. No twin of `words::write::put`: each word becomes a double, which no copy does.
 fn copy_doubles(bits: &[u64], at: usize, out: &mut [f64])
     requires bits_in_bounds { at + length bits.now ≤ length out.old }
     requires all_small { all small bits.now ≡ true }

@@ -12,7 +12,7 @@ pub struct Legal<'a> {
 }
 
 impl<'a> Legal<'a> {
-    // The bytes, if they are a legal name.
+    // The bytes, if they are a legal name. (No twin of `Undamaged::of`, which has another test and another fact.)
     pub fn of(bytes: &'a [u8]) -> Option<Legal<'a>>
         ensures { MatchOption result (legal bytes.now ≡ false) (λ name. name.bytes.now ≡ bytes.now) }
     {
