@@ -1,6 +1,7 @@
 // The answers to the calls of a script.
 use super::call::Call;
 use super::{changes, memory, parts, queries};
+use print::Word;
 use std::io;
 
 // The answer to a call on the first `size` words; none, if the memory has not so many.
@@ -12,7 +13,7 @@ pub fn answer(rt: &impl Print, call: Call, words: &mut [u64], size: usize) -> io
         memory::put(at, word, words);
     }
     if answer_on(rt, call, &mut words[..size])? {
-        println!(rt; "memory {:016X}", memory::checksum(words))?;
+        println!(rt; "memory {}", Word(memory::checksum(words)))?;
     }
     Ok(())
 }

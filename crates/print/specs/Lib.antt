@@ -1,0 +1,2 @@
+-- What the programs print of a double.
+pub mod Printed
